@@ -1,0 +1,61 @@
+-- Numbers of any width: what is written reads back, and what is read writes back. Proved once, for every width.
+-- Assumes nothing.
+use mathlib.Core.Path.{_≡_, refl, _∙_, ap, sym, subst}
+use mathlib.Core.List.{List, [], _∷_}
+use Prim.Native.Nat.{ℕ, zero, suc, _+_, _*_, _/_, _%_, _^_, _<_, _≤_}
+use native.Mathlib.Nat.{pow-succ', add-mul, mul-assoc, add-assoc, mod-eq-of-lt, mul-comm}
+use native.Mathlib.Omega.{arith}
+use lib.Arith.{mod-mul, digits-lt, digits-div, digits-mod}
+use lib.Dec.{lit<}
+use lib.ListN.{length, getD}
+use Rattle.facts.specs.BigEndian.{number, numberFrom, digits}
+
+-- every element is a byte, as what owning a `&[u8]` tells
+abbrev pub Bytes : List ℕ → Type 0
+Bytes xs = (i : ℕ) → getD xs i 0 < 256
+
+pub some : (w : ℕ) → 0 < 256 ^ w
+some zero = lit< tt
+some (suc w) = omega (arith, pow-succ' 256 w, some w)
+
+-- what stands before goes up by the width
+pub number-from : (h : ℕ) (xs : List ℕ) → numberFrom h xs ≡ h * 256 ^ length xs + number xs
+number-from h [] = omega arith
+number-from h (x ∷ xs) =
+    let c = 256 ^ length xs in
+    number-from (h * 256 + x) xs
+    ∙ ap (λ (k : ℕ). k + number xs) (add-mul (h * 256) x c ∙ ap (λ (k : ℕ). k + x * c) (mul-assoc h 256 c))
+    ∙ add-assoc (h * (256 * c)) (x * c) (number xs)
+    ∙ ap (λ (k : ℕ). k + (x * c + number xs)) (ap (λ (k : ℕ). h * k) (sym (pow-succ' 256 (length xs))))
+    ∙ ap (λ (k : ℕ). h * 256 ^ suc (length xs) + k) (sym (number-from (0 * 256 + x) xs ∙ ap (λ (k : ℕ). k * c + number xs) (omega arith)))
+
+-- a number of w bytes is below 256 ^ w
+pub number-below : (xs : List ℕ) → Bytes xs → number xs < 256 ^ length xs
+number-below [] b = lit< tt
+number-below (x ∷ xs) b =
+    let c = 256 ^ length xs in
+    subst (λ (k : ℕ). numberFrom (0 + x) xs < k) (sym (pow-succ' 256 (length xs)))
+    (subst (λ (k : ℕ). k < 256 * c) (sym (number-from (0 + x) xs)) (digits-lt (omega (arith, b 0)) (number-below xs (λ i. b (suc i)))))
+
+-- what is written reads back, at every width
+pub reads-back : (w h n : ℕ) → numberFrom h (digits w n) ≡ h * 256 ^ w + n % 256 ^ w
+reads-back zero h n = omega arith
+reads-back (suc w) h n =
+    let c = 256 ^ w in
+    let d = n / c % 256 in
+    reads-back w (h * 256 + d) n
+    ∙ ap (λ (k : ℕ). k + n % c) (add-mul (h * 256) d c ∙ ap (λ (k : ℕ). k + d * c) (mul-assoc h 256 c))
+    ∙ add-assoc (h * (256 * c)) (d * c) (n % c)
+    ∙ ap (λ (k : ℕ). h * (256 * c) + k) (sym (mod-mul n (lit< tt) (some w)))
+    ∙ ap (λ (k : ℕ). h * k + n % k) (sym (pow-succ' 256 w))
+
+-- what is read writes back, at every width
+pub writes-back : (h : ℕ) (xs : List ℕ) → Bytes xs → digits (length xs) (numberFrom h xs) ≡ xs
+writes-back h [] b = refl
+writes-back h (x ∷ xs) b =
+    let c = 256 ^ length xs in
+    let rest : Bytes xs = λ i. b (suc i) in
+    ap (λ (k : ℕ). k / c % 256 ∷ digits (length xs) (numberFrom (h * 256 + x) xs)) (number-from (h * 256 + x) xs)
+    ∙ ap (λ (k : ℕ). k % 256 ∷ digits (length xs) (numberFrom (h * 256 + x) xs)) (digits-div (h * 256 + x) (number-below xs rest))
+    ∙ ap (λ (k : ℕ). k ∷ digits (length xs) (numberFrom (h * 256 + x) xs)) (digits-mod h (b 0))
+    ∙ ap (λ (l : List ℕ). x ∷ l) (writes-back (h * 256 + x) xs rest)

@@ -1,0 +1,6 @@
+pub mod Over
+pub mod Pieces
+pub mod Ranges
+pub mod Table
+pub mod BigEndian
+pub mod Unique

@@ -1,0 +1,62 @@
+-- A list of ranges gives one answer to all numbers from one to another: a test that antt computes, and the law that uses it.
+-- It serves each branch of a function that goes by ranges.
+-- Assumes nothing.
+use mathlib.Core.Path.{_≡_, refl, _∙_, ap, sym, subst}
+use mathlib.Core.Bool.{Bool, true, false, cond, _&&_, _||_}
+use mathlib.Core.List.{List, [], _∷_}
+use mathlib.Core.Option.{Option, none, some}
+use Prim.Native.Nat.{ℕ, _≤_, _<_}
+use native.Mathlib.Omega.{arith}
+use borrow.Author.Tests.{le-leb, lt-leb, leb-true, ltb-true}
+use lib.Dec.{leb, ltb}
+use Rattle.facts.specs.Ranges.{Row, row, lookup, within}
+
+-- the one answer from low to high, or none where the rows part them. The rows that are left stand once: twice, antt's work doubles with each row
+abbrev pub uniform : {A : Type 0} → A → List (Row A) → ℕ → ℕ → Option A
+uniform other [] low high = some other
+uniform other (row l h answer ∷ rows) low high =
+    cond (ltb h low || ltb high l) (uniform other rows low high) (cond (leb l low && leb high h) (some answer) none)
+
+module _ {A : Type 0} (other : A) (low high n : ℕ) (from : low ≤ n) (to : n ≤ high) where
+  above : (l h : ℕ) → h < low → within l h n ≡ false
+  unfolding within
+  above l h p = both-false (leb l n) (leb n h) (lt-leb n h (omega arith))
+    where
+      both-false : (a b : Bool) → b ≡ false → (a && b) ≡ false
+      both-false true b e = e
+      both-false false b e = refl
+
+  below : (l h : ℕ) → high < l → within l h n ≡ false
+  unfolding within
+  below l h p = ap (λ (t : Bool). t && leb n h) (lt-leb l n (omega arith))
+
+  inside : (l h : ℕ) → l ≤ low → high ≤ h → within l h n ≡ true
+  unfolding within
+  inside l h p q = simp (le-leb l n (omega arith), le-leb n h (omega arith))
+
+  step : (l h : ℕ) (a answer : A) (rows : List (Row A)) → (uniform other rows low high ≡ some answer → lookup other rows n ≡ answer)
+      → (t₁ t₂ t₃ t₄ : Bool) → ltb h low ≡ t₁ → ltb high l ≡ t₂ → leb l low ≡ t₃ → leb high h ≡ t₄
+      → cond (t₁ || t₂) (uniform other rows low high) (cond (t₃ && t₄) (some a) none) ≡ some answer
+      → cond (within l h n) a (lookup other rows n) ≡ answer
+  step l h a answer rows more true t₂ t₃ t₄ p q r s e = rw (above l h (ltb-true h low p)) (more e)
+  step l h a answer rows more false true t₃ t₄ p q r s e = rw (below l h (ltb-true high l q)) (more e)
+  step l h a answer rows more false false true true p q r s e = rw (inside l h (leb-true l low r) (leb-true high h s)) (cc)
+  step l h a answer rows more false false true false p q r s e = let z : _≡_ {A = ℕ} 0 1 = cc in absurd (omega arith)
+  step l h a answer rows more false false false t₄ p q r s e = let z : _≡_ {A = ℕ} 0 1 = cc in absurd (omega arith)
+
+  -- all numbers from low to high are given the one answer
+  pub one-answer : (rows : List (Row A)) (answer : A) → uniform other rows low high ≡ some answer → lookup other rows n ≡ answer
+  unfolding lookup
+  one-answer [] answer e = cc
+  one-answer (row l h a ∷ rows) answer e =
+      step l h a answer rows (one-answer rows answer) (ltb h low) (ltb high l) (leb l low) (leb high h) refl refl refl refl e
+
+-- a number that a row of one number does not hold
+pub outside : (k n : ℕ) → (n ≡ k → ⊥) → within k k n ≡ false
+unfolding within
+outside k n ne = go (leb k n) (leb n k) refl refl
+  where
+    go : (a b : Bool) → leb k n ≡ a → leb n k ≡ b → (a && b) ≡ false
+    go true true p q = let e : n ≡ k = omega (arith, leb-true k n p, leb-true n k q) in absurd (ne e)
+    go true false p q = refl
+    go false b p q = refl

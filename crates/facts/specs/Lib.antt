@@ -1,0 +1,4 @@
+pub mod Over
+pub mod Pieces
+pub mod Ranges
+pub mod BigEndian

@@ -1,0 +1,79 @@
+-- The laws of `specs/Numbers.antt`: what each test says, and which check decides.
+-- Assumes nothing.
+use mathlib.Core.Path.{_≡_, refl, ap, _∙_}
+use Prim.Native.Nat.{ℕ, _+_, _≤_, _<_}
+use mathlib.Core.Bool.{Bool, true, false, cond, _||_}
+use mathlib.Core.List.{List, [], _∷_}
+use lib.ListN.{length}
+use lib.Dec.{eqb}
+use borrow.Author.Tests.{lt-ltb, le-ltb, eq-eqb, ne-eqb}
+use Rattle.rfc.specs.Numbers.{Answer, refused, mostBytes, mostValue, tooLong, pastEnd, noCode, tooMuch, noRoom, Check, check, checked}
+
+-- the check of this number is the first whose test holds
+pub data Refuses : List Check → ℕ → Type 0 where
+  here : {test : Bool} {n : ℕ} {cs : List Check} → test ≡ true → Refuses (check test n ∷ cs) n
+  later : {test : Bool} {k n : ℕ} {cs : List Check} → test ≡ false → Refuses cs n → Refuses (check test k ∷ cs) n
+
+pub refuses : {A : Type 0} {cs : List Check} {n : ℕ} (answer : Answer A) → Refuses cs n → checked cs answer ≡ refused n
+unfolding checked
+refuses answer (here e) = rw e
+refuses answer (later e r) = rw e (refuses answer r)
+
+-- no test holds
+abbrev pub Clear : List Check → Type 0
+Clear [] = Unit {0}
+Clear (check test n ∷ cs) = (test ≡ false) × Clear cs
+
+pub clears : {A : Type 0} (cs : List Check) (answer : Answer A) → Clear cs → checked cs answer ≡ answer
+unfolding checked
+clears [] answer c = refl
+clears (check test n ∷ cs) answer c = rw (c .0) (clears cs answer (c .1))
+
+-- 2
+pub long : (bytes : List ℕ) → mostBytes < length bytes → tooLong bytes ≡ true
+unfolding tooLong
+long bytes h = lt-ltb mostBytes (length bytes) h
+
+pub not-long : (bytes : List ℕ) → length bytes ≤ mostBytes → tooLong bytes ≡ false
+unfolding tooLong
+not-long bytes h = le-ltb mostBytes (length bytes) h
+
+-- 4
+pub past : (place : ℕ) (bytes : List ℕ) → length bytes < place → pastEnd place bytes ≡ true
+unfolding pastEnd
+past place bytes h = lt-ltb (length bytes) place h
+
+pub not-past : (place : ℕ) (bytes : List ℕ) → place ≤ length bytes → pastEnd place bytes ≡ false
+unfolding pastEnd
+not-past place bytes h = le-ltb (length bytes) place h
+
+-- 6
+pub pad-code : (code : ℕ) → code ≡ 0 → noCode code ≡ true
+unfolding noCode
+pad-code code e = rw (eq-eqb code 0 e)
+
+pub end-code : (code : ℕ) → (code ≡ 0 → ⊥) → code ≡ 255 → noCode code ≡ true
+unfolding noCode
+end-code code n e = rw (ne-eqb code 0 n, eq-eqb code 255 e)
+
+pub a-code : (code : ℕ) → (code ≡ 0 → ⊥) → (code ≡ 255 → ⊥) → noCode code ≡ false
+unfolding noCode
+a-code code n m = rw (ne-eqb code 0 n, ne-eqb code 255 m)
+
+-- 7
+pub much : (value : List ℕ) → mostValue < length value → tooMuch value ≡ true
+unfolding tooMuch
+much value h = lt-ltb mostValue (length value) h
+
+pub not-much : (value : List ℕ) → length value ≤ mostValue → tooMuch value ≡ false
+unfolding tooMuch
+not-much value h = le-ltb mostValue (length value) h
+
+-- 8
+pub full : (room : List ℕ) (place : ℕ) (bytes : List ℕ) → length room < place + length bytes → noRoom room place bytes ≡ true
+unfolding noRoom
+full room place bytes h = lt-ltb (length room) (place + length bytes) h
+
+pub not-full : (room : List ℕ) (place : ℕ) (bytes : List ℕ) → place + length bytes ≤ length room → noRoom room place bytes ≡ false
+unfolding noRoom
+not-full room place bytes h = le-ltb (length room) (place + length bytes) h

@@ -1,0 +1,10 @@
+pub mod Numbers
+pub mod Header
+pub mod Walk
+pub mod Kinds
+pub mod Text
+pub mod Values
+pub mod Writing
+pub mod Typed
+pub mod Routes
+pub mod Lists

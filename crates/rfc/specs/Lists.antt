@@ -1,0 +1,85 @@
+-- Lists of options, written one behind the other and walked call after call (demand 3).
+-- Assumes nothing.
+use Prim.Native.Nat.{ℕ, suc, zero, _≤_, _<_}
+use mathlib.Core.Path.{_≡_}
+use mathlib.Core.List.{List, [], _∷_, _++_}
+use lib.ListN.{length}
+use Rattle.rfc.specs.Numbers.{Answer, given, refused, needs, mostValue, mostPart}
+use Rattle.rfc.specs.Walk.{Found, stop, option, step}
+use Rattle.rfc.specs.Writing.{encode, Write, answerTo, roomAfter, writeBytes, close}
+
+-- an option of a list
+pub record Opt : Type 0 where
+  pub code : ℕ
+  pub value : List ℕ
+
+-- a code from 1 to 254, and a value of 1 to 4,080 bytes
+pub record Good (o : Opt) : Type 0 where
+  pub low : 1 ≤ o .code
+  pub high : o .code ≤ 254
+  pub some : 1 ≤ length (o .value)
+  pub most : length (o .value) ≤ mostValue
+
+-- the first option of a list, if there is one, has another code
+abbrev pub Differs : ℕ → List Opt → Type 0
+Differs code [] = Unit {0}
+Differs code (o ∷ os) = o .code ≡ code → ⊥
+
+-- every option is good, and no two neighbours have one code
+abbrev pub Valid : List Opt → Type 0
+Valid [] = Unit {0}
+Valid (o ∷ os) = Good o × Differs (o .code) os × Valid os
+
+-- every number of a list is a byte
+abbrev pub Bytes : List ℕ → Type 0
+Bytes [] = Unit {0}
+Bytes (b ∷ l) = (b < 256) × Bytes l
+
+-- the list's bytes, as byte values, closed with End
+unfoldable pub encodeAll : List Opt → List ℕ
+encodeAll [] = 255 ∷ []
+encodeAll (o ∷ os) = encode mostPart (o .code) (o .value) ++ encodeAll os
+
+-- a run of writes: the place behind the last and what the room then holds, or the first refusal
+pub data Made : Type 0 where
+  made : ℕ → List ℕ → Made
+  failed : Made
+
+-- a write, and what follows it from the place that it answers, in the room that it leaves
+unfoldable pub andThen : Answer ℕ → List ℕ → (List ℕ → ℕ → Made) → Made
+andThen (given next) room more = more room next
+andThen (refused k) room more = failed
+andThen (needs n) room more = failed
+
+unfoldable pub does : Write → List ℕ → ℕ → (List ℕ → ℕ → Made) → Made
+does w room place more = andThen (answerTo w room place) (roomAfter w room place) more
+
+abbrev pub finished : List ℕ → ℕ → Made
+finished room place = made place room
+
+-- the options written one behind the other, each as a byte value, and closed
+unfoldable pub writeAll : List Opt → List ℕ → ℕ → Made
+writeAll [] room place = does (close room place) room place finished
+writeAll (o ∷ os) room place = does (writeBytes (o .code) (o .value) room place) room place (writeAll os)
+
+-- what call after call gives: the options, and the first answer that is no option
+pub record Listing : Type 0 where
+  pub options : List Opt
+  pub ending : Answer Found
+
+-- an option goes in front of what the calls behind it give; any other answer ends the listing
+unfoldable pub onward : Answer Found → (ℕ → Listing) → Listing
+onward (given (stop s at)) more = record { options = []; ending = given (stop s at) }
+onward (given (option code v n at)) more =
+    record { options = record { code = code; value = v } ∷ more at .options; ending = more at .ending }
+onward (refused k) more = record { options = []; ending = refused k }
+onward (needs n) more = record { options = []; ending = needs n }
+
+-- from a place, with so much room to join in: no more than so many options, and the answer of the call behind them
+unfoldable pub listIn : ℕ → List ℕ → ℕ → ℕ → Listing
+listIn zero area room place = record { options = []; ending = step area place room }
+listIn (suc k) area room place = onward (step area place room) (listIn k area room)
+
+-- from the area's front; an option takes two bytes or more, so no area has more options than bytes
+unfoldable pub listing : List ℕ → ℕ → Listing
+listing area room = listIn (length area) area room 0

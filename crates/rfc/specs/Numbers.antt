@@ -1,0 +1,72 @@
+-- The numbers that a caller may get back, when each is given, and in what order they are checked
+-- (document 01, "Numbers a caller may get back").
+-- A byte is a number. A message, an area, a room and a value are lists of bytes. A place is the number of bytes before it.
+-- Assumes nothing.
+use Prim.Native.Nat.{ℕ, _+_}
+use mathlib.Core.Bool.{Bool, cond, _||_}
+use mathlib.Core.List.{List, [], _∷_, _++_}
+use lib.ListN.{length}
+use lib.Dec.{eqb, leb, ltb}
+
+-- what every entry point answers: what was asked for, or a refusal by its number; 5 with the length that is needed
+pub data Answer (A : Type 0) : Type 0 where
+  given : A → Answer A
+  refused : ℕ → Answer A
+  needs : ℕ → Answer A
+
+-- the limits: the fewest bytes of a message; the most bytes of a message, an area, a room or a value to be read; the most bytes of a
+-- value to be written; the most bytes of one part of it (its length is one byte: RFC 2132, section 2)
+abbrev pub leastMessage : ℕ
+leastMessage = 240
+
+abbrev pub mostBytes : ℕ
+mostBytes = 65535
+
+abbrev pub mostValue : ℕ
+mostValue = 4080
+
+abbrev pub mostPart : ℕ
+mostPart = 255
+
+-- 2: a message, area, room or value to be read has more than 65,535 bytes
+unfoldable pub tooLong : List ℕ → Bool
+tooLong bytes = ltb mostBytes (length bytes)
+
+-- 1: the message has fewer than 240 bytes
+unfoldable pub tooShort : List ℕ → Bool
+tooShort message = ltb (length message) leastMessage
+
+-- 4: a place is past the end
+unfoldable pub pastEnd : ℕ → List ℕ → Bool
+pastEnd place bytes = ltb (length bytes) place
+
+-- 4: an element's index is not below the count
+unfoldable pub noElement : ℕ → ℕ → Bool
+noElement index count = leb count index
+
+-- 6: the code to be read or written is 0 or 255
+unfoldable pub noCode : ℕ → Bool
+noCode code = eqb code 0 || eqb code 255
+
+-- 7: the whole value to be written has more than 4,080 bytes
+unfoldable pub tooMuch : List ℕ → Bool
+tooMuch value = ltb mostValue (length value)
+
+-- 8: the bytes to be written don't fit from the place to the room's end
+unfoldable pub noRoom : List ℕ → ℕ → List ℕ → Bool
+noRoom room place bytes = ltb (length room) (place + length bytes)
+
+-- (3, 5, 9 to 14 are about one thing each, and stand with it.)
+
+-- a check: the number is given where the test holds
+pub data Check : Type 0 where
+  check : Bool → ℕ → Check
+
+-- the first check whose test holds refuses; where none does, the answer stands
+unfoldable pub checked : {A : Type 0} → List Check → Answer A → Answer A
+checked [] answer = answer
+checked (check test number ∷ checks) answer = cond test (refused number) (checked checks answer)
+
+-- the order of the checks; 4 for a place comes third, 4 for an index eleventh
+abbrev pub order : List ℕ
+order = 2 ∷ 1 ∷ 4 ∷ 6 ∷ 9 ∷ 13 ∷ 12 ∷ 10 ∷ 11 ∷ 14 ∷ 4 ∷ 3 ∷ 7 ∷ 5 ∷ 8 ∷ []

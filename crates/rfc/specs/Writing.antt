@@ -1,0 +1,51 @@
+-- How a value is written in parts, and what a write answers and leaves (RFC 2132, section 2; RFC 3396, section 5; document 01, "Writing").
+-- Assumes nothing.
+use Prim.Native.Nat.{ℕ, _+_}
+use mathlib.Core.List.{List, [], _∷_, _++_}
+use lib.ListN.{length}
+use Rattle.facts.specs.Over.{over}
+use Rattle.facts.specs.Pieces.{pieces}
+use Rattle.rfc.specs.Numbers.{Answer, given, refused, needs, Check, check, checked, mostPart, tooLong, pastEnd, noCode, tooMuch, noRoom}
+
+-- a part for each piece: the code, the piece's length, the piece
+unfoldable pub partsOf : ℕ → List (List ℕ) → List ℕ
+partsOf code [] = []
+partsOf code (p ∷ ps) = code ∷ length p ∷ (p ++ partsOf code ps)
+
+-- a value in parts of so many bytes, the last one shorter; an empty value is no part
+unfoldable pub encode : ℕ → ℕ → List ℕ → List ℕ
+encode size code v = partsOf code (pieces size v)
+
+-- a write into a room at a place: its checks, in their order, and the bytes that it puts there
+pub record Write : Type 0 where
+  pub checks : List Check
+  pub bytes : List ℕ
+
+-- what a write answers: the place behind its bytes, or the first refusal; that they fit is checked last
+unfoldable pub answerTo : Write → List ℕ → ℕ → Answer ℕ
+answerTo w room place = checked (w .checks ++ check (noRoom room place (w .bytes)) 8 ∷ []) (given (place + length (w .bytes)))
+
+-- what the room then holds: a refusal changes nothing, and a success exactly the bytes from the old place to the new one
+unfoldable pub roomLeft : Answer ℕ → List ℕ → ℕ → List ℕ → List ℕ
+roomLeft (given next) room place bytes = over room place bytes
+roomLeft (refused k) room place bytes = room
+roomLeft (needs n) room place bytes = room
+
+unfoldable pub roomAfter : Write → List ℕ → ℕ → List ℕ
+roomAfter w room place = roomLeft (answerTo w room place) room place (w .bytes)
+
+-- some bytes as they stand, into any lent buffer
+unfoldable pub putting : List ℕ → List ℕ → ℕ → Write
+putting bytes room place = record { checks = check (pastEnd place room) 4 ∷ []; bytes = bytes }
+
+-- a byte value, to any code from 1 to 254: parts of 255 bytes
+unfoldable pub writeBytes : ℕ → List ℕ → List ℕ → ℕ → Write
+writeBytes code v room place =
+    record {
+      checks = check (tooLong room) 2 ∷ check (pastEnd place room) 4 ∷ check (noCode code) 6 ∷ check (tooMuch v) 7 ∷ [];
+      bytes = encode mostPart code v;
+    }
+
+-- End: one 255
+unfoldable pub close : List ℕ → ℕ → Write
+close room place = record { checks = check (tooLong room) 2 ∷ check (pastEnd place room) 4 ∷ []; bytes = 255 ∷ [] }
