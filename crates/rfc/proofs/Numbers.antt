@@ -20,14 +20,14 @@ refuses answer (here e) = rw e
 refuses answer (later e r) = rw e (refuses answer r)
 
 -- no test holds
-abbrev pub Clear : List Check → Type 0
-Clear [] = Unit {0}
-Clear (check test n ∷ cs) = (test ≡ false) × Clear cs
+pub data Clear : List Check → Type 0 where
+  done : Clear []
+  next : {test : Bool} {n : ℕ} {cs : List Check} → test ≡ false → Clear cs → Clear (check test n ∷ cs)
 
-pub clears : {A : Type 0} (cs : List Check) (answer : Answer A) → Clear cs → checked cs answer ≡ answer
+pub clears : {A : Type 0} {cs : List Check} (answer : Answer A) → Clear cs → checked cs answer ≡ answer
 unfolding checked
-clears [] answer c = refl
-clears (check test n ∷ cs) answer c = rw (c .0) (clears cs answer (c .1))
+clears answer done = refl
+clears answer (next e c) = rw e (clears answer c)
 
 -- 2
 pub long : (bytes : List ℕ) → mostBytes < length bytes → tooLong bytes ≡ true

@@ -1,0 +1,135 @@
+-- The laws of `specs/Lists.antt`: a list of options is written as its bytes, and its bytes are walked as the list.
+-- Assumes nothing.
+use mathlib.Core.Path.{_≡_, refl, sym, ap, _∙_}
+use Prim.Native.Nat.{ℕ, suc, zero, _+_, _-_, _≤_, _<_}
+use native.Mathlib.Omega.{arith}
+use native.Mathlib.Nat.{not-suc-le-zero, le-refl}
+use mathlib.Core.List.{List, [], _∷_, _++_, append-assoc, append-nil}
+use lib.ListN.{length, take, drop, length-append}
+use lib.Dec.{lit<}
+use lib.Seq.{drop-append-seam}
+use Rattle.facts.specs.Over.{over}
+use Rattle.facts.specs.Pieces.{pieces}
+use Rattle.facts.proofs.Over.{over-over, length-over}
+use Rattle.rfc.specs.Numbers.{Answer, given, mostBytes, mostValue, mostPart}
+use Rattle.rfc.specs.Walk.{Found, stop, option, end, run, further, walk, roomFor, step}
+use Rattle.rfc.specs.Writing.{encode, Write, answerTo, roomAfter, writeBytes, close}
+use Rattle.rfc.specs.Lists.{Opt, Good, Differs, Valid, encodeAll, Made, made, andThen, does, finished, writeAll, Listing, onward, listIn, listing}
+use Rattle.rfc.proofs.Walk.{further-other, walk-end, stop-answered, answered, step-walks}
+use Rattle.rfc.proofs.Writing.{encode-more, close-given, close-left, bytes-given, bytes-left}
+use Rattle.rfc.proofs.Parts.{walk-encode}
+
+some-part : 0 < mostPart
+some-part = lit< tt
+
+-- Writing. A write that is given is followed by the next, in the room that it leaves
+goes-on : (w : Write) (room room′ : List ℕ) (place to : ℕ) (more : List ℕ → ℕ → Made)
+    → answerTo w room place ≡ given to → roomAfter w room place ≡ room′ → does w room place more ≡ more room′ to
+unfolding does andThen
+goes-on w room room′ place to more a b = (λ i. andThen (a i) (b i) more)
+
+-- a list that fits is written as its bytes, at any place
+pub writes-all : (os : List Opt) (room : List ℕ) (place : ℕ)
+    → Valid os → length room ≤ mostBytes → place + length (encodeAll os) ≤ length room
+    → writeAll os room place ≡ made (place + length (encodeAll os)) (over room place (encodeAll os))
+unfolding writeAll encodeAll
+writes-all [] room place v h k =
+    let p : place ≤ length room = omega arith in
+    goes-on (close room place) room _ place _ finished (close-given room place h p k) (close-left room place h p k)
+writes-all (o ∷ os) room place v h k =
+    let here : List ℕ = encode mostPart (o .code) (o .value) in
+    let there : List ℕ = encodeAll os in
+    let l : length (here ++ there) ≡ length here + length there = length-append here there in
+    let p : place ≤ length room = omega arith in
+    let f : place + length here ≤ length room = omega arith in
+    let zero-not : o .code ≡ 0 → ⊥ = λ z. omega (arith, v .0 .low) in
+    let end-not : o .code ≡ 255 → ⊥ = λ z. omega (arith, v .0 .high) in
+    let e : place + length here + length there ≡ place + length (here ++ there) = omega arith in
+    goes-on (writeBytes (o .code) (o .value) room place) room _ place _ (writeAll os)
+    (bytes-given (o .code) (o .value) room place h p zero-not end-not (v .0 .most) f)
+    (bytes-left (o .code) (o .value) room place h p zero-not end-not (v .0 .most) f)
+    ∙ writes-all os (over room place here) (place + length here) (v .2)
+    (omega (arith, length-over room place here f))
+    (omega (arith, length-over room place here f))
+    ∙ (λ i. made (e i) (over-over room place here there f i))
+
+-- Walking. A call behind what has been walked
+step-behind : (area pre x : List ℕ) (room : ℕ) → area ≡ pre ++ x → length area ≤ mostBytes
+    → step area (length pre) room ≡ roomFor room (walk (length pre) x)
+step-behind area pre x room e h =
+    step-walks area (length pre) room h (omega (arith, ap length e, length-append pre x))
+    ∙ ap (λ (l : List ℕ). roomFor room (walk (length pre) l)) (ap (drop (length pre)) e ∙ drop-append-seam pre x)
+
+-- no further part of a code follows, where the next option has another
+next-other : (code : ℕ) (os : List Opt) (rest : List ℕ) → code ≤ 254 → Differs code os → Valid os
+    → further code (encodeAll os ++ rest) ≡ run 0 []
+unfolding encodeAll
+next-other code [] rest h d v = further-other code 255 rest (λ z. omega arith)
+next-other code (o ∷ os) rest h d v =
+    ap (λ (l : List ℕ). further code (l ++ encodeAll os ++ rest)) (encode-more mostPart some-part (o .code) (o .value) (v .0 .some))
+    ∙ further-other code (o .code) _ d
+
+module _ (area rest : List ℕ) (room : ℕ) (short : length area ≤ mostBytes) (joins : mostValue ≤ room) where
+  list-in : (os : List Opt) (pre : List ℕ) (k : ℕ) → Valid os → length os ≤ k → area ≡ pre ++ (encodeAll os ++ rest)
+      → listIn k area room (length pre) ≡ record { options = os; ending = given (stop end (length pre + length (encodeAll os))) }
+  unfolding encodeAll listIn onward
+  list-in [] pre zero v h e =
+      let w = step-behind area pre (255 ∷ rest) room e short ∙ ap (roomFor room) (walk-end (length pre) 255 rest refl) ∙ stop-answered room [] end _ in
+      λ i. record { options = []; ending = w i }
+  list-in [] pre (suc k) v h e =
+      let w = step-behind area pre (255 ∷ rest) room e short ∙ ap (roomFor room) (walk-end (length pre) 255 rest refl) ∙ stop-answered room [] end _ in
+      ap (λ (a : Answer Found). onward a (listIn k area room)) w
+  list-in (o ∷ os) pre zero v h e = absurd (not-suc-le-zero h)
+  list-in (o ∷ os) pre (suc k) v h e =
+      let code : ℕ = o .code in
+      let value : List ℕ = o .value in
+      let here : List ℕ = encode mostPart code value in
+      let there : List ℕ = encodeAll os ++ rest in
+      let n : ℕ = length (pieces mostPart (drop mostPart value)) + 1 in
+      let to : ℕ = length pre + length here in
+      let a : area ≡ pre ++ (here ++ there) = e ∙ ap (λ (l : List ℕ). pre ++ l) (append-assoc here (encodeAll os) rest) in
+      let other = next-other code os rest (v .0 .high) (v .1) (v .2) in
+      let w : step area (length pre) room ≡ given (option code value n to) =
+      step-behind area pre (here ++ there) room a short
+      ∙ ap (roomFor room) (walk-encode code there other (v .0 .low) (v .0 .high) mostPart some-part (length pre) value (v .0 .some))
+      ∙ answered room [] code value n to (omega (arith, v .0 .most)) in
+      let p : to ≡ length (pre ++ here) = sym (length-append pre here) in
+      let q : length (pre ++ here) + length (encodeAll os) ≡ length pre + length (here ++ encodeAll os) =
+      omega (arith, length-append pre here, length-append here (encodeAll os)) in
+      let r : listIn k area room to ≡ record { options = os; ending = given (stop end (length pre + length (here ++ encodeAll os))) } =
+      ap (listIn k area room) p
+      ∙ list-in os (pre ++ here) k (v .2) (omega arith) (a ∙ sym (append-assoc pre here there))
+      ∙ (λ i. record { options = os; ending = given (stop end (q i)) }) in
+      ap (λ (x : Answer Found). onward x (listIn k area room)) w ∙ (λ i. record { options = o ∷ r i .options; ending = r i .ending })
+
+-- a list has fewer options than bytes
+length-list : (os : List Opt) → Valid os → length os < length (encodeAll os)
+unfolding encodeAll
+length-list [] v = omega arith
+length-list (o ∷ os) v =
+    let here : List ℕ = encode mostPart (o .code) (o .value) in
+    omega (
+      arith,
+      length-list os (v .2),
+      length-append here (encodeAll os),
+      ap length (encode-more mostPart some-part (o .code) (o .value) (v .0 .some)),
+    )
+
+-- the list's bytes, with any bytes behind them, are walked as the list, up to its End
+pub walks-all : (os : List Opt) (rest : List ℕ) (room : ℕ) → Valid os → mostValue ≤ room → length (encodeAll os ++ rest) ≤ mostBytes
+    → listing (encodeAll os ++ rest) room ≡ record { options = os; ending = given (stop end (length (encodeAll os))) }
+unfolding listing
+walks-all os rest room v j h =
+    let z : 0 + length (encodeAll os) ≡ length (encodeAll os) = omega arith in
+    let area : List ℕ = encodeAll os ++ rest in
+    list-in area rest room h j os [] (length area) v (omega (arith, length-list os v, length-append (encodeAll os) rest)) refl
+    ∙ (λ i. record { options = os; ending = given (stop end (z i)) })
+
+-- so two lists of which one's bytes begin the other's are one
+pub one-list : (os ps : List Opt) (rest : List ℕ) → Valid os → Valid ps → length (encodeAll ps) ≤ mostBytes
+    → encodeAll ps ≡ encodeAll os ++ rest → os ≡ ps
+one-list os ps rest v w h e =
+    let n : encodeAll ps ++ [] ≡ encodeAll ps = append-nil (encodeAll ps) in
+    let a = walks-all os rest mostValue v (le-refl _) (omega (arith, ap length e)) in
+    let b = walks-all ps [] mostValue w (le-refl _) (omega (arith, ap length n)) in
+    ap (λ (l : Listing). l .options) (sym a ∙ ap (λ (l : List ℕ). listing l mostValue) (sym e ∙ sym n) ∙ b)
