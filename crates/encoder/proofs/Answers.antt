@@ -1,0 +1,39 @@
+-- A writer's answers, for any write: a refusal, a success, and what its contract tells a caller.
+-- Assumes nothing.
+use mathlib.Core.Path.{_≡_, sym, ap, _∙_}
+use Prim.Native.Nat.{ℕ, _+_, _≤_}
+use mathlib.Core.List.{List}
+use lib.ListN.{length}
+use native.Mathlib.Omega.{arith}
+use Rattle.facts.specs.Over.{over}
+use Rattle.rfc.specs.Numbers.{given, refused}
+use Rattle.rfc.specs.Writing.{Write, answerTo, roomAfter, putting}
+use Rattle.rfc.proofs.Writing.{refused-left, putting-left}
+use Rattle.encoder.specs.Written.{says, Wrote}
+use Rattle.encoder.specs.declared.Written.{Written}
+use Rattle.encoder.specs.declared.Written.the-variants.{To, Refused}
+
+module _ (w : Write) (room : List ℕ) (place : ℕ) where
+  -- a refusal changes nothing
+  pub refuses : (k : ℕ) → answerTo w room place ≡ refused k → Wrote w room room place (Refused k)
+  refuses k e = record { told = sym e; left = sym (refused-left w room place k e) }
+
+  -- a success leaves what the definition says
+  pub writes : (room′ : List ℕ) (to : ℕ) → answerTo w room place ≡ given to → roomAfter w room place ≡ room′ → Wrote w room room′ place (To to)
+  writes room′ to e l = record { told = sym e; left = sym l }
+
+-- back from what is said to who said it
+says-one : (r q : Written) → says r ≡ says q → r ≡ q
+says-one (To a) (To b) e = cc
+says-one (To a) (Refused b) e = cc
+says-one (Refused a) (To b) e = cc
+says-one (Refused a) (Refused b) e = cc
+
+-- any two answers, and any two rooms left, are equal
+pub wrote-one : {w : Write} {room r₁ r₂ : List ℕ} {place : ℕ} {a b : Written} → Wrote w room r₁ place a → Wrote w room r₂ place b → (a ≡ b) × (r₁ ≡ r₂)
+wrote-one {a = a} {b = b} p q = (says-one a b (p .told ∙ sym (q .told)), p .left ∙ sym (q .left))
+
+-- bytes that fit are put over what stood there
+pub put-over : (bytes room room′ : List ℕ) (place : ℕ) (r : Written) → place + length bytes ≤ length room
+    → Wrote (putting bytes room place) room room′ place r → room′ ≡ over room place bytes
+put-over bytes room room′ place r h w = w .left ∙ putting-left bytes room place (omega arith) h

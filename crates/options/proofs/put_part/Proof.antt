@@ -1,0 +1,89 @@
+use mathlib.Core.Path.{_≡_, ap, _∙_}
+use Prim.Native.Nat.{ℕ, _+_, _-_}
+use mathlib.Core.List.{List}
+use native.Mathlib.Omega.{arith}
+use lib.ListN.{length, take, drop, set, length-set, length-drop}
+use lib.Seq.{length-take-le}
+use Rattle.facts.specs.Over.{over}
+use Rattle.encoder.proofs.Answers.{put-over}
+use Rattle.options.proofs.Parts.{part-over}
+use borrow.Author.Needs.{needs}
+use Rattle.options.proofs.put_part.Statement.{statement}
+use Rattle.options.proofs.put_part.Tie as tie
+use Rattle.options.proofs.put_part.Reads as reads
+use Rattle.options.proofs.put_part.Lts as lts
+use Rattle.encoder.proofs.write_slice.Reads as write-slice-reads
+
+-- src/lib.rt:87:5
+slice-write-room : tie.Need-slice-write-room
+slice-write-room c = search needs
+
+-- src/lib.rt:88:20
+cast-room : tie.Need-cast-room
+cast-room c = search needs
+
+-- src/lib.rt:88:10
+add-room : tie.Need-add-room
+add-room c = search needs
+
+-- src/lib.rt:88:5
+slice-write-room-2 : tie.Need-slice-write-room-2
+slice-write-room-2 c = simp length-set (omega arith)
+
+-- src/lib.rt:89:32
+add-write-slice : tie.Need-add-write-slice
+add-write-slice c = search needs
+
+-- src/lib.rt:89:53
+add-write-slice-2 : tie.Need-add-write-slice-2
+add-write-slice-2 c = search needs
+
+-- src/lib.rt:89:40
+sub-write-slice : tie.Need-sub-write-slice
+sub-write-slice c = search needs
+
+-- src/lib.rt:89:40
+part-write-slice-start : tie.Need-part-write-slice-start
+part-write-slice-start c = search needs
+
+-- src/lib.rt:89:40
+part-write-slice-end : tie.Need-part-write-slice-end
+part-write-slice-end c = search needs
+
+-- src/lib.rt:89:5
+write-slice-requires : tie.Need-write-slice-requires
+write-slice-requires c κs = search needs
+
+-- src/lib.rt:83:1
+same-length : tie.Need-same-length
+same-length c = c .before .before .write-slice .kept .0 ∙ simp length-set
+
+-- src/lib.rt:83:1
+returns : tie.Need-returns
+returns c =
+    let a = c .before .before .before .before .before .before .before .args in
+    let v : List ℕ = a .value .now in
+    let stored : List ℕ = set (set (a .room .now) (a .at) (a .code)) (a .at + 1) (a .n) in
+    let n : a .from + a .n - a .from ≡ a .n = omega arith in
+    let l : length (take (a .n) (drop (a .from) v)) ≡ a .n = length-take-le (a .n) (drop (a .from) v) (omega (arith, length-drop (a .from) v)) in
+    let s : length stored ≡ length (a .room .now) = simp length-set in
+    put-over (take (a .from + a .n - a .from) (drop (a .from) v)) stored _ (a .at + 2) _ (rw n (omega arith)) (c .before .before .write-slice .ensures)
+    ∙ ap (λ (k : ℕ). over stored (a .at + 2) (take k (drop (a .from) v))) n
+    ∙ part-over (a .room .now) v (a .at) (a .code) (a .from) (a .n) (omega arith)
+
+pub put-part-spec : {M : Type 1} → statement M
+put-part-spec =
+    tie.close
+    (tie.spec
+    slice-write-room
+    cast-room
+    add-room
+    slice-write-room-2
+    add-write-slice
+    add-write-slice-2
+    sub-write-slice
+    part-write-slice-start
+    part-write-slice-end
+    write-slice-requires
+    same-length
+    returns)

@@ -1,0 +1,90 @@
+// Options written into a lent room at a place, as the crate's `encode_long_opt_bytes` writes them: parts of 255 bytes, each with its
+// code and its length before it.
+ghost use mathlib.Core.Path.{_≡_};
+ghost use mathlib.Core.List.{_∷_};
+ghost use Prim.Native.Nat.{_+_, _≤_, min};
+ghost use lib.ListN.{length, take, drop};
+ghost use Rattle.facts.specs.Over.{over};
+ghost use Rattle.rfc.specs.Numbers.{mostBytes, mostPart};
+ghost use Rattle.rfc.specs.Writing.{encode, writeBytes, close as closing};
+ghost use Rattle.encoder.specs.Written.{Wrote};
+use encoder::Written;
+use limits::MOST_BYTES;
+use limits::MOST_PART;
+use limits::MOST_VALUE;
+
+// Writes `value` to `code` at `place` as a byte value.
+pub fn write_bytes(room: &mut [u8], place: usize, code: u8, value: &[u8]) -> Written
+    ensures { λ r. ⌜ Wrote (writeBytes code (now (value .entry)) (now (room .entry)) place) (now (room .entry)) (now (room .exit)) place r ⌝ }
+{
+    if room.len() > MOST_BYTES {
+        return Written::Refused(2);
+    }
+    if place > room.len() {
+        return Written::Refused(4);
+    }
+    if code == 0 {
+        return Written::Refused(6);
+    }
+    if code == 255 {
+        return Written::Refused(6);
+    }
+    if value.len() > MOST_VALUE {
+        return Written::Refused(7);
+    }
+    let size = value.len() + 2 * ((value.len() + (MOST_PART - 1)) / MOST_PART);
+    if size > room.len() - place {
+        return Written::Refused(8);
+    }
+    put_parts(room, place, code, value);
+    Written::To(place + size)
+}
+
+// Writes End at `place`.
+pub fn close(room: &mut [u8], place: usize) -> Written
+    ensures { λ r. ⌜ Wrote (closing (now (room .entry)) place) (now (room .entry)) (now (room .exit)) place r ⌝ }
+{
+    if room.len() > MOST_BYTES {
+        return Written::Refused(2);
+    }
+    if place > room.len() {
+        return Written::Refused(4);
+    }
+    if place == room.len() {
+        return Written::Refused(8);
+    }
+    room[place] = 255;
+    Written::To(place + 1)
+}
+
+// Writes all parts of `value`.
+fn put_parts(room: &mut [u8], place: usize, code: u8, value: &[u8])
+    requires { ⌜ (length (now room) ≤ mostBytes) × (place + length (encode mostPart code (now value)) ≤ length (now room)) ⌝ }
+    ensures { λ _. ⌜ now (room .exit) ≡ over (now (room .entry)) place (encode mostPart code (now (value .entry))) ⌝ }
+{
+    let mut done: usize = 0;
+    let mut from: usize = 0;
+    while from < value.len() {
+        let n = next_piece(value.len() - from);
+        put_part(room, place + done, code, value, from, n);
+        done = done + 2 + n;
+        from += n;
+    }
+}
+
+// How many of so many bytes the next part takes.
+fn next_piece(left: usize) -> usize
+    ensures { λ r. ⌜ r ≡ min mostPart left ⌝ }
+{
+    if left > MOST_PART { MOST_PART } else { left }
+}
+
+// Writes one part: the code, the length, the `n` bytes of `value` from `from` on.
+fn put_part(room: &mut [u8], at: usize, code: u8, value: &[u8], from: usize, n: usize)
+    requires { ⌜ (length (now room) ≤ mostBytes) × (at + (2 + n) ≤ length (now room)) × (from + n ≤ length (now value)) × (n ≤ mostPart) ⌝ }
+    ensures { λ _. ⌜ now (room .exit) ≡ over (now (room .entry)) at (code ∷ n ∷ take n (drop from (now (value .entry)))) ⌝ }
+{
+    room[at] = code;
+    room[at + 1] = n as u8;
+    encoder::write_slice(room, at + 2, &value[from..from + n]);
+}
