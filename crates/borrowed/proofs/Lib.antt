@@ -1,0 +1,4 @@
+pub mod Runs
+pub mod Shown
+pub mod Answers
+pub mod Joining

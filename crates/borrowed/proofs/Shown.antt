@@ -1,0 +1,47 @@
+-- The bytes that an option shows, case by case.
+-- Assumes nothing.
+use mathlib.Core.Path.{_≡_, refl, ap, _∙_}
+use Prim.Native.Nat.{ℕ, _+_, _-_, _≤_, _<_}
+use native.Mathlib.Omega.{arith}
+use native.Mathlib.Decide.{decLe}
+use mathlib.Core.List.{List, []}
+use mathlib.Core.Bool.{cond}
+use lib.ListN.{length, take, drop, length-drop}
+use lib.Seq.{length-take-le}
+use lib.Dec.{leb}
+use borrow.Author.Tests.{le-leb, lt-leb}
+use Rattle.borrowed.specs.Walked.{partOf, shown}
+
+module _ (bytes : List ℕ) (start len : ℕ) where
+  pub part-there : start + len ≤ length bytes → partOf bytes start len ≡ take len (drop start bytes)
+  unfolding partOf
+  part-there h = rw (le-leb (start + len) (length bytes) h)
+
+  pub part-none : length bytes < start + len → partOf bytes start len ≡ []
+  unfolding partOf
+  part-none h = rw (lt-leb (start + len) (length bytes) h)
+
+module _ (parts len place : ℕ) (area join : List ℕ) where
+  pub shown-many : 1 < parts → shown parts len place area join ≡ partOf join 0 len
+  unfolding shown
+  shown-many h = rw (lt-leb parts 1 h)
+
+  pub shown-none : parts ≤ 1 → place < len → shown parts len place area join ≡ []
+  unfolding shown
+  shown-none h g = simp (le-leb parts 1 h, lt-leb len place g)
+
+  pub shown-one : parts ≤ 1 → len ≤ place → shown parts len place area join ≡ partOf area (place - len) len
+  unfolding shown
+  shown-one h g = simp (le-leb parts 1 h, le-leb len place g)
+
+  -- bytes that are there are as many as was said
+  pub length-shown : len ≤ place → place ≤ length area → (1 < parts → len ≤ length join) → length (shown parts len place area join) ≡ len
+  length-shown h g k = go (decLe parts 1)
+    where
+      go : Dec (parts ≤ 1) → length (shown parts len place area join) ≡ len
+      go (yes p) =
+          ap length (shown-one p h ∙ part-there area (place - len) len (omega arith))
+          ∙ length-take-le len (drop (place - len) area) (omega (arith, length-drop (place - len) area))
+      go (no p) =
+          let j : len ≤ length join = k (omega arith) in
+          ap length (shown-many (omega arith) ∙ part-there join 0 len (omega arith)) ∙ length-take-le len join j

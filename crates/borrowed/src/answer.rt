@@ -1,0 +1,33 @@
+// What one call of the walk answers.
+
+// The five stops. The crate says `None` for all of them.
+pub enum Stop {
+    Out,
+    End,
+    CutLength,
+    CutValue,
+    CutContinuation,
+}
+
+pub enum Step {
+    // A stop, and the place behind it.
+    Stopped(Stop, usize),
+    // A whole option, and the place behind its last part. With one part its value is the `len` bytes of the area before `place`, with
+    // more the first `len` bytes of the join buffer.
+    Found {
+        code: u8,
+        parts: usize,
+        len: usize,
+        place: usize,
+    },
+    // A refusal by its number.
+    Refused(u8),
+    // Refusal 5, with the length that is needed.
+    Needs(usize),
+}
+
+// The further parts of an option: one is cut, or so many, with so many bytes of values.
+pub enum Run {
+    Cut,
+    Whole { parts: usize, len: usize },
+}

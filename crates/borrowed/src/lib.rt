@@ -1,0 +1,114 @@
+// The walk over an area of options, as the crate's `DhcpOptionIterator::next` has it, by value: one call from a place.
+pub mod answer;
+mod parts;
+
+ghost use Prim.Native.Nat.{_≤_};
+ghost use mathlib.Core.Path.{_≡_};
+ghost use lib.ListN.{length, drop};
+ghost use Rattle.rfc.specs.Walk.{roomFor, walk, step as stepping};
+ghost use Rattle.borrowed.specs.Walked.{Walked, Skipped, Ready, partOf, shown, placeOf};
+use answer::Run;
+use answer::Step;
+use answer::Stop;
+use limits::MOST_BYTES;
+
+// One call at `place`. An option of two parts or more is joined in `join`.
+pub fn step(area: &[u8], place: usize, join: &mut [u8]) -> Step
+    ensures { λ r. ⌜ Walked (now (area .entry)) (now (join .entry)) (now (join .exit)) r
+        (stepping (now (area .entry)) place (length (now (join .entry)))) ⌝ }
+{
+    if area.len() > MOST_BYTES {
+        return Step::Refused(2);
+    }
+    if place > area.len() {
+        return Step::Refused(4);
+    }
+    let at = skip_pads(area, place);
+    read(area, at, join)
+}
+
+// The first place from `place` on that holds no Pad, or the area's end.
+fn skip_pads(area: &[u8], place: usize) -> usize
+    requires { ⌜ place ≤ length (now area) ⌝ }
+    ensures { λ r. ⌜ Skipped (now (area .entry)) place r ⌝ }
+{
+    let mut i = place;
+    while i < area.len() {
+        if area[i] != 0 {
+            return i;
+        }
+        i += 1;
+    }
+    i
+}
+
+// A call at a place that holds no Pad.
+fn read(area: &[u8], at: usize, join: &mut [u8]) -> Step
+    requires { ⌜ Ready (now area) at ⌝ }
+    ensures { λ r. ⌜ Walked (now (area .entry)) (now (join .entry)) (now (join .exit)) r
+        (roomFor (length (now (join .entry))) (walk at (drop at (now (area .entry))))) ⌝ }
+{
+    if at >= area.len() {
+        return Step::Stopped(Stop::Out, at);
+    }
+    let code = area[at];
+    if code == 255 {
+        return Step::Stopped(Stop::End, at + 1);
+    }
+    if area.len() - at < 2 {
+        return Step::Stopped(Stop::CutLength, at + 1);
+    }
+    let len = area[at + 1] as usize;
+    if len > area.len() - (at + 2) {
+        return Step::Stopped(Stop::CutValue, at + 2);
+    }
+    let next = at + 2 + len;
+    match parts::scan(area, next, code) {
+        Run::Cut => Step::Stopped(Stop::CutContinuation, next),
+        Run::Whole { parts, len: more } => parts::finish(area, at, code, parts, len, more, join),
+    }
+}
+
+// The `len` bytes from `start` on, or none where they are not all there.
+pub fn part<'a>(bytes: &'a [u8], start: usize, len: usize) -> &'a [u8]
+    ensures { λ r. ⌜ now r ≡ partOf (now (bytes .entry)) start len ⌝ }
+{
+    if start > bytes.len() {
+        return &bytes[0..0];
+    }
+    if len > bytes.len() - start {
+        return &bytes[0..0];
+    }
+    &bytes[start..start + len]
+}
+
+// The value of an option that a step found, from whichever of the two slices holds it. Bytes that are not there, as no answer of `step`
+// says, are none.
+pub fn value<'a>(area: &'a [u8], join: &'a [u8], parts: usize, len: usize, place: usize) -> &'a [u8]
+    ensures { λ r. ⌜ now r ≡ shown parts len place (now (area .entry)) (now (join .entry)) ⌝ }
+{
+    if parts > 1 {
+        return part(join, 0, len);
+    }
+    if len > place {
+        return part(area, 0, 0);
+    }
+    part(area, place - len, len)
+}
+
+// Where the walk goes on after a step from `place`: a refusal moves nothing.
+pub fn place_after(s: Step, place: usize) -> usize
+    ensures { λ r. ⌜ r ≡ placeOf s place ⌝ }
+{
+    match s {
+        Step::Stopped(_, at) => at,
+        Step::Found {
+            code: _,
+            parts: _,
+            len: _,
+            place: at,
+        } => at,
+        Step::Refused(_) => place,
+        Step::Needs(_) => place,
+    }
+}
