@@ -2,3 +2,4 @@ pub mod Runs
 pub mod Shown
 pub mod Answers
 pub mod Joining
+pub mod Unique

@@ -43,13 +43,15 @@ module _ (d : List ℕ) (at : ℕ) (s : List ℕ) (fits : at + length s ≤ leng
   unfolding over
   behind-over = drop-at (take at d ++ s) (drop (at + length s) d) (at + length s) (head-length d at s (omega arith))
 
-  -- what was written stands there
-  pub shown-over : take (length s) (drop at (over d at s)) ≡ s
+  -- from its place on stands what was written, and then what stood behind it
+  pub from-over : drop at (over d at s) ≡ s ++ drop (at + length s) d
   unfolding over
-  shown-over =
-      ap (λ (l : List ℕ). take (length s) (drop at l)) (append-assoc (take at d) s (drop (at + length s) d))
-      ∙ ap (take (length s)) (drop-at (take at d) (s ++ drop (at + length s) d) at (length-take-le at d (omega arith)))
-      ∙ take-at s (drop (at + length s) d) (length s) refl
+  from-over =
+      ap (drop at) (append-assoc (take at d) s (drop (at + length s) d))
+      ∙ drop-at (take at d) (s ++ drop (at + length s) d) at (length-take-le at d (omega arith))
+
+  pub shown-over : take (length s) (drop at (over d at s)) ≡ s
+  shown-over = ap (take (length s)) from-over ∙ take-at s (drop (at + length s) d) (length s) refl
 
 -- a write behind another
 pub over-over : (d : List ℕ) (at : ℕ) (a b : List ℕ) → at + length a ≤ length d

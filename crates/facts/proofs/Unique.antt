@@ -21,3 +21,9 @@ module _ (n : ℕ) (ps : List (PK n)) (r : RK n) (Post : Out n ps r) where
   UniqueLeft left =
       (κs : Lfts n) (a : Dens κs ps) (x y : resT r κs .Denot) (s t : AtExit (endedOf n ps r) κs)
       → Post κs a x s → Post κs a y t → (x ≡ y) × (left κs s ≡ left κs t)
+
+  -- the arguments decide the bytes of a slice that is answered
+  abbrev pub UniqueShown : ((κs : Lfts n) → resT r κs .Denot → List ℕ) → Type 0
+  UniqueShown shown =
+      (κs : Lfts n) (a : Dens κs ps) (x y : resT r κs .Denot) (s t : AtExit (endedOf n ps r) κs)
+      → Post κs a x s → Post κs a y t → shown κs x ≡ shown κs y

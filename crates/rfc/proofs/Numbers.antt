@@ -3,11 +3,12 @@
 use mathlib.Core.Path.{_≡_, refl, ap, _∙_}
 use Prim.Native.Nat.{ℕ, _+_, _≤_, _<_}
 use mathlib.Core.Bool.{Bool, true, false, cond, _||_}
-use mathlib.Core.List.{List, [], _∷_}
+use mathlib.Core.List.{List, [], _∷_, _++_}
+use native.Mathlib.Omega.{arith}
 use lib.ListN.{length}
 use lib.Dec.{eqb}
-use borrow.Author.Tests.{lt-ltb, le-ltb, eq-eqb, ne-eqb}
-use Rattle.rfc.specs.Numbers.{Answer, refused, mostBytes, mostValue, tooLong, pastEnd, noCode, tooMuch, noRoom, Check, check, checked}
+use borrow.Author.Tests.{lt-ltb, le-ltb, ltb-false, eq-eqb, ne-eqb}
+use Rattle.rfc.specs.Numbers.{Answer, given, refused, mostBytes, mostValue, tooLong, pastEnd, noCode, tooMuch, noRoom, Check, check, checked}
 
 -- the check of this number is the first whose test holds
 pub data Refuses : List Check → ℕ → Type 0 where
@@ -28,6 +29,21 @@ pub clears : {A : Type 0} {cs : List Check} (answer : Answer A) → Clear cs →
 unfolding checked
 clears answer done = refl
 clears answer (next e c) = rw e (clears answer c)
+
+-- where something is given, it is the answer behind the checks, and the last of them did not hold
+pub given-is : {A : Type 0} (cs : List Check) (a b : A) → checked cs (given a) ≡ given b → a ≡ b
+unfolding checked
+given-is [] a b e = cc
+given-is (check true n ∷ cs) a b e = let z : _≡_ {A = ℕ} 0 1 = cc in absurd (let f : ⊥ = omega arith in f)
+given-is (check false n ∷ cs) a b e = given-is cs a b e
+
+pub given-clear : {A : Type 0} (cs : List Check) (test : Bool) (n : ℕ) (a b : A)
+    → checked (cs ++ check test n ∷ []) (given a) ≡ given b → test ≡ false
+unfolding checked
+given-clear [] true n a b e = let z : _≡_ {A = ℕ} 0 1 = cc in absurd (let f : ⊥ = omega arith in f)
+given-clear [] false n a b e = refl
+given-clear (check true k ∷ cs) test n a b e = let z : _≡_ {A = ℕ} 0 1 = cc in absurd (let f : ⊥ = omega arith in f)
+given-clear (check false k ∷ cs) test n a b e = given-clear cs test n a b e
 
 -- 2
 pub long : (bytes : List ℕ) → mostBytes < length bytes → tooLong bytes ≡ true
@@ -77,3 +93,7 @@ full room place bytes h = lt-ltb (length room) (place + length bytes) h
 pub not-full : (room : List ℕ) (place : ℕ) (bytes : List ℕ) → place + length bytes ≤ length room → noRoom room place bytes ≡ false
 unfolding noRoom
 not-full room place bytes h = le-ltb (length room) (place + length bytes) h
+
+pub room-left : (room : List ℕ) (place : ℕ) (bytes : List ℕ) → noRoom room place bytes ≡ false → place + length bytes ≤ length room
+unfolding noRoom
+room-left room place bytes e = ltb-false (length room) (place + length bytes) e

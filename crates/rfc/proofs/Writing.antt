@@ -9,8 +9,8 @@ use Rattle.facts.specs.Over.{over}
 use Rattle.facts.specs.Pieces.{pieces}
 use Rattle.facts.proofs.Pieces.{pieces-none, pieces-more, flatten-pieces, count-pieces}
 use Rattle.rfc.specs.Numbers.{Answer, given, refused, check, mostBytes, mostValue, mostPart, noRoom}
-use Rattle.rfc.specs.Writing.{partsOf, encode, Write, answerTo, roomLeft, roomAfter, putting, writeBytes, close}
-use Rattle.rfc.proofs.Numbers.{Refuses, here, later, refuses, Clear, done, next, clears, long, not-long, past, not-past, pad-code, end-code, a-code, much, not-much, full, not-full}
+use Rattle.rfc.specs.Writing.{partsOf, encode, Write, writeChecks, answerTo, roomLeft, roomAfter, putting, writeBytes, close}
+use Rattle.rfc.proofs.Numbers.{Refuses, here, later, refuses, Clear, done, next, clears, given-is, given-clear, long, not-long, past, not-past, pad-code, end-code, a-code, much, not-much, full, not-full, room-left}
 
 -- two bytes for each part
 pub length-parts : (code : ℕ) (ps : List (List ℕ)) → length (partsOf code ps) ≡ 2 * length ps + length (flatten ps)
@@ -36,11 +36,11 @@ module _ (size : ℕ) (some : 0 < size) (code : ℕ) where
 
 -- any write: what the checks decide, and what is left
 module _ (w : Write) (room : List ℕ) (place : ℕ) where
-  pub write-refused : {k : ℕ} → Refuses (w .checks ++ check (noRoom room place (w .bytes)) 8 ∷ []) k → answerTo w room place ≡ refused k
+  pub write-refused : {k : ℕ} → Refuses (writeChecks w room place) k → answerTo w room place ≡ refused k
   unfolding answerTo
   write-refused r = refuses _ r
 
-  pub write-given : Clear (w .checks ++ check (noRoom room place (w .bytes)) 8 ∷ []) → answerTo w room place ≡ given (place + length (w .bytes))
+  pub write-given : Clear (writeChecks w room place) → answerTo w room place ≡ given (place + length (w .bytes))
   unfolding answerTo
   write-given c = clears _ c
 
@@ -52,87 +52,96 @@ module _ (w : Write) (room : List ℕ) (place : ℕ) where
   unfolding roomAfter roomLeft
   given-left to e = ap (λ (a : Answer ℕ). roomLeft a room place (w .bytes)) e
 
+  pub given-to : (to : ℕ) → answerTo w room place ≡ given to → to ≡ place + length (w .bytes)
+  unfolding answerTo
+  given-to to e = sym (given-is (writeChecks w room place) (place + length (w .bytes)) to e)
+
+  pub given-fits : (to : ℕ) → answerTo w room place ≡ given to → place + length (w .bytes) ≤ length room
+  unfolding answerTo writeChecks
+  given-fits to e =
+      room-left room place (w .bytes) (given-clear (w .checks) (noRoom room place (w .bytes)) 8 (place + length (w .bytes)) to e)
+
 -- some bytes as they stand
 module _ (bytes room : List ℕ) (place : ℕ) where
   pub putting-4 : length room < place → answerTo (putting bytes room place) room place ≡ refused 4
-  unfolding putting
+  unfolding putting writeChecks
   putting-4 a = write-refused _ room place (here (past place room a))
 
   module _ (a : place ≤ length room) where
     pub putting-8 : length room < place + length bytes → answerTo (putting bytes room place) room place ≡ refused 8
-    unfolding putting
+    unfolding putting writeChecks
     putting-8 b = write-refused _ room place (later (not-past place room a) (here (full room place bytes b)))
 
     module _ (b : place + length bytes ≤ length room) where
       pub putting-given : answerTo (putting bytes room place) room place ≡ given (place + length bytes)
-      unfolding putting
+      unfolding putting writeChecks
       putting-given = write-given (putting bytes room place) room place (next (not-past place room a) (next (not-full room place bytes b) done))
 
       pub putting-left : roomAfter (putting bytes room place) room place ≡ over room place bytes
-      unfolding putting
+      unfolding putting writeChecks
       putting-left = given-left (putting bytes room place) room place _ putting-given
 
 -- End
 module _ (room : List ℕ) (place : ℕ) where
   pub close-2 : mostBytes < length room → answerTo (close room place) room place ≡ refused 2
-  unfolding close
+  unfolding close writeChecks
   close-2 a = write-refused _ room place (here (long room a))
 
   module _ (a : length room ≤ mostBytes) where
     pub close-4 : length room < place → answerTo (close room place) room place ≡ refused 4
-    unfolding close
+    unfolding close writeChecks
     close-4 b = write-refused _ room place (later (not-long room a) (here (past place room b)))
 
     module _ (b : place ≤ length room) where
       pub close-8 : length room < place + 1 → answerTo (close room place) room place ≡ refused 8
-      unfolding close
+      unfolding close writeChecks
       close-8 c =
           write-refused _ room place (later (not-long room a) (later (not-past place room b) (here (full room place (255 ∷ []) c))))
 
       module _ (c : place + 1 ≤ length room) where
         pub close-given : answerTo (close room place) room place ≡ given (place + 1)
-        unfolding close
+        unfolding close writeChecks
         close-given =
             write-given (close room place) room place 
             (next (not-long room a) (next (not-past place room b) (next (not-full room place (255 ∷ []) c) done)))
 
         pub close-left : roomAfter (close room place) room place ≡ over room place (255 ∷ [])
-        unfolding close
+        unfolding close writeChecks
         close-left = given-left (close room place) room place _ close-given
 
 -- a byte value
 module _ (code : ℕ) (v room : List ℕ) (place : ℕ) where
   pub bytes-2 : mostBytes < length room → answerTo (writeBytes code v room place) room place ≡ refused 2
-  unfolding writeBytes
+  unfolding writeBytes writeChecks
   bytes-2 a = write-refused _ room place (here (long room a))
 
   module _ (a : length room ≤ mostBytes) where
     pub bytes-4 : length room < place → answerTo (writeBytes code v room place) room place ≡ refused 4
-    unfolding writeBytes
+    unfolding writeBytes writeChecks
     bytes-4 b = write-refused _ room place (later (not-long room a) (here (past place room b)))
 
     module _ (b : place ≤ length room) where
       pub bytes-pad : code ≡ 0 → answerTo (writeBytes code v room place) room place ≡ refused 6
-      unfolding writeBytes
+      unfolding writeBytes writeChecks
       bytes-pad c =
           write-refused _ room place (later (not-long room a) (later (not-past place room b) (here (pad-code code c))))
 
       module _ (c : code ≡ 0 → ⊥) where
         pub bytes-end : code ≡ 255 → answerTo (writeBytes code v room place) room place ≡ refused 6
-        unfolding writeBytes
+        unfolding writeBytes writeChecks
         bytes-end d =
             write-refused _ room place (later (not-long room a) (later (not-past place room b) (here (end-code code c d))))
 
         module _ (d : code ≡ 255 → ⊥) where
           pub bytes-7 : mostValue < length v → answerTo (writeBytes code v room place) room place ≡ refused 7
-          unfolding writeBytes
+          unfolding writeBytes writeChecks
           bytes-7 e =
               write-refused _ room place
               (later (not-long room a) (later (not-past place room b) (later (a-code code c d) (here (much v e)))))
 
           module _ (e : length v ≤ mostValue) where
             pub bytes-8 : length room < place + length (encode mostPart code v) → answerTo (writeBytes code v room place) room place ≡ refused 8
-            unfolding writeBytes
+            unfolding writeBytes writeChecks
             bytes-8 f =
                 write-refused _ room place
                 (later (not-long room a)
@@ -141,7 +150,7 @@ module _ (code : ℕ) (v room : List ℕ) (place : ℕ) where
 
             module _ (f : place + length (encode mostPart code v) ≤ length room) where
               pub bytes-given : answerTo (writeBytes code v room place) room place ≡ given (place + length (encode mostPart code v))
-              unfolding writeBytes
+              unfolding writeBytes writeChecks
               bytes-given =
                   write-given (writeBytes code v room place) room place
                   (next (not-long room a)
@@ -149,5 +158,5 @@ module _ (code : ℕ) (v room : List ℕ) (place : ℕ) where
                   (next (a-code code c d) (next (not-much v e) (next (not-full room place (encode mostPart code v) f) done)))))
 
               pub bytes-left : roomAfter (writeBytes code v room place) room place ≡ over room place (encode mostPart code v)
-              unfolding writeBytes
+              unfolding writeBytes writeChecks
               bytes-left = given-left (writeBytes code v room place) room place _ bytes-given

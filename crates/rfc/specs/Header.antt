@@ -74,12 +74,19 @@ messageChecks message = check (tooLong message) 2 ∷ check (tooShort message) 1
 unfoldable pub field : Part → List ℕ → Answer ℕ
 field f message = checked (messageChecks message) (given (number (bytesOf f message)))
 
--- the hlen bytes from chaddr's first place on: up to 255 of them, as the crate shows them, though RFC 2131 gives the field 16.
--- 3: they run past the message's end
+-- the hlen bytes from chaddr's first place on: up to 255 of them, as the crate shows them, though RFC 2131 gives the field 16
+unfoldable pub chaddrPart : List ℕ → Part
+chaddrPart message = part (chaddrField .start) (number (bytesOf hlen message))
+
+-- 3: 28 + hlen is more than the message's length
+unfoldable pub chaddrCut : List ℕ → Bool
+chaddrCut message = ltb (length message) (chaddrPart message .start + chaddrPart message .len)
+
+unfoldable pub chaddrChecks : List ℕ → List Check
+chaddrChecks message = messageChecks message ++ check (chaddrCut message) 3 ∷ []
+
 unfoldable pub chaddr : List ℕ → Answer Part
-chaddr message =
-    let len = number (bytesOf hlen message) in
-    checked (messageChecks message ++ check (ltb (length message) (chaddrField .start + len)) 3 ∷ []) (given (part (chaddrField .start) len))
+chaddr message = checked (chaddrChecks message) (given (chaddrPart message))
 
 -- how many bytes stand before the first zero, or all
 unfoldable pub untilZero : List ℕ → ℕ

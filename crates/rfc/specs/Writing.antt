@@ -21,9 +21,13 @@ pub record Write : Type 0 where
   pub checks : List Check
   pub bytes : List ℕ
 
--- what a write answers: the place behind its bytes, or the first refusal; that they fit is checked last
+-- that the bytes fit is checked last
+unfoldable pub writeChecks : Write → List ℕ → ℕ → List Check
+writeChecks w room place = w .checks ++ check (noRoom room place (w .bytes)) 8 ∷ []
+
+-- what a write answers: the place behind its bytes, or the first refusal
 unfoldable pub answerTo : Write → List ℕ → ℕ → Answer ℕ
-answerTo w room place = checked (w .checks ++ check (noRoom room place (w .bytes)) 8 ∷ []) (given (place + length (w .bytes)))
+answerTo w room place = checked (writeChecks w room place) (given (place + length (w .bytes)))
 
 -- what the room then holds: a refusal changes nothing, and a success exactly the bytes from the old place to the new one
 unfoldable pub roomLeft : Answer ℕ → List ℕ → ℕ → List ℕ → List ℕ

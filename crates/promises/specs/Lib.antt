@@ -1,0 +1,4 @@
+pub mod Refusals
+pub mod Order
+pub mod Lists
+pub mod Examples
