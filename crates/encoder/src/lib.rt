@@ -25,8 +25,9 @@ pub fn write_slice(room: &mut [u8], place: usize, bytes: &[u8]) -> Written
     if bytes.len() > room.len() - place {
         return Written::Refused(8);
     }
+    let to = place + bytes.len();
     copy(bytes, room, place);
-    Written::To(place + bytes.len())
+    Written::To(to)
 }
 
 // Copies all of `from` into `to` at `place`.

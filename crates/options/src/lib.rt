@@ -36,8 +36,9 @@ pub fn write_bytes(room: &mut [u8], place: usize, code: u8, value: &[u8]) -> Wri
     if size > room.len() - place {
         return Written::Refused(8);
     }
+    let to = place + size;
     put_parts(room, place, code, value);
-    Written::To(place + size)
+    Written::To(to)
 }
 
 // Writes End at `place`.
@@ -53,8 +54,9 @@ pub fn close(room: &mut [u8], place: usize) -> Written
     if place == room.len() {
         return Written::Refused(8);
     }
+    let to = place + 1;
     room[place] = 255;
-    Written::To(place + 1)
+    Written::To(to)
 }
 
 // Writes all parts of `value`.

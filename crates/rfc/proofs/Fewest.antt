@@ -7,7 +7,7 @@ use mathlib.Core.List.{List, [], _∷_, _++_}
 use mathlib.Core.Bool.{Bool, true, false, cond}
 use lib.ListN.{length, take, drop, length-append, length-take}
 use lib.Dec.{leb, eqb, lit<}
-use Rattle.rfc.specs.Numbers.{Answer, given, refused, needs, mostPart, check, checked, tooLong, pastEnd}
+use Rattle.rfc.specs.Numbers.{Answer, given, refused, needs, mostPart, padCode, endCode, checked, tooLong, pastEnd}
 use Rattle.rfc.specs.Walk.{Stop, end, cutLength, cutValue, cutContinuation, Found, stop, option, Run, cut, run, extend, furtherIn, further, joined, behind, walk, roomFor, stepChecks, step}
 use Rattle.rfc.specs.Writing.{encode}
 use Rattle.rfc.specs.Lists.{Opt, encodeAll, Listing, onward, listIn, listing, Bytes}
@@ -69,7 +69,7 @@ fair-behind at code (n ∷ rest) h = go (leb n (length rest))
 fair : (at : ℕ) (rest : List ℕ) → Bytes rest → Fair at (walk at rest)
 unfolding walk
 fair at [] h = λ e. let z : _≡_ {A = ℕ} 0 1 = cc in omega arith
-fair at (b ∷ rest) h = go (eqb b 0) (eqb b 255) (fair (at + 1) rest (h .1))
+fair at (b ∷ rest) h = go (eqb b padCode) (eqb b endCode) (fair (at + 1) rest (h .1))
   where
     go : (t u : Bool) → Fair (at + 1) (walk (at + 1) rest) → Fair at (cond t (walk (at + 1) rest) (cond u (stop end (at + 1)) (behind b (at + 1) rest)))
     go true u ih = fair-sooner at (at + 1) (walk (at + 1) rest) (omega arith) ih

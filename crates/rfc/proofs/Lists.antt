@@ -11,7 +11,7 @@ use lib.Seq.{drop-append-seam}
 use Rattle.facts.specs.Over.{over}
 use Rattle.facts.specs.Pieces.{pieces}
 use Rattle.facts.proofs.Over.{over-over, length-over}
-use Rattle.rfc.specs.Numbers.{Answer, given, mostBytes, mostValue, mostPart}
+use Rattle.rfc.specs.Numbers.{Answer, given, mostBytes, mostValue, mostPart, padCode, endCode}
 use Rattle.rfc.specs.Walk.{Found, stop, option, end, run, further, walk, roomFor, step}
 use Rattle.rfc.specs.Writing.{encode, Write, answerTo, roomAfter, writeBytes, close}
 use Rattle.rfc.specs.Lists.{Opt, Good, Differs, Valid, encodeAll, Made, made, andThen, does, finished, writeAll, Listing, onward, listIn, listing}
@@ -42,8 +42,8 @@ writes-all (o ∷ os) room place v h k =
     let l : length (here ++ there) ≡ length here + length there = length-append here there in
     let p : place ≤ length room = omega arith in
     let f : place + length here ≤ length room = omega arith in
-    let zero-not : o .code ≡ 0 → ⊥ = λ z. omega (arith, v .0 .low) in
-    let end-not : o .code ≡ 255 → ⊥ = λ z. omega (arith, v .0 .high) in
+    let zero-not : o .code ≡ padCode → ⊥ = λ z. omega (arith, v .0 .low) in
+    let end-not : o .code ≡ endCode → ⊥ = λ z. omega (arith, v .0 .high) in
     let e : place + length here + length there ≡ place + length (here ++ there) = omega arith in
     goes-on (writeBytes (o .code) (o .value) room place) room _ place _ (writeAll os)
     (bytes-given (o .code) (o .value) room place h p zero-not end-not (v .0 .most) f)
@@ -64,7 +64,7 @@ step-behind area pre x room e h =
 next-other : (code : ℕ) (os : List Opt) (rest : List ℕ) → code ≤ 254 → Differs code os → Valid os
     → further code (encodeAll os ++ rest) ≡ run 0 []
 unfolding encodeAll
-next-other code [] rest h d v = further-other code 255 rest (λ z. omega arith)
+next-other code [] rest h d v = further-other code endCode rest (λ z. omega arith)
 next-other code (o ∷ os) rest h d v =
     ap (λ (l : List ℕ). further code (l ++ encodeAll os ++ rest)) (encode-more mostPart some-part (o .code) (o .value) (v .0 .some))
     ∙ further-other code (o .code) _ d
@@ -74,10 +74,10 @@ module _ (area rest : List ℕ) (room : ℕ) (short : length area ≤ mostBytes)
       → listIn k area room (length pre) ≡ record { options = os; ending = given (stop end (length pre + length (encodeAll os))) }
   unfolding encodeAll listIn onward
   list-in [] pre zero v h e =
-      let w = step-behind area pre (255 ∷ rest) room e short ∙ ap (roomFor room) (walk-end (length pre) 255 rest refl) ∙ stop-answered room [] end _ in
+      let w = step-behind area pre (endCode ∷ rest) room e short ∙ ap (roomFor room) (walk-end (length pre) endCode rest refl) ∙ stop-answered room [] end _ in
       λ i. record { options = []; ending = w i }
   list-in [] pre (suc k) v h e =
-      let w = step-behind area pre (255 ∷ rest) room e short ∙ ap (roomFor room) (walk-end (length pre) 255 rest refl) ∙ stop-answered room [] end _ in
+      let w = step-behind area pre (endCode ∷ rest) room e short ∙ ap (roomFor room) (walk-end (length pre) endCode rest refl) ∙ stop-answered room [] end _ in
       ap (λ (a : Answer Found). onward a (listIn k area room)) w
   list-in (o ∷ os) pre zero v h e = absurd (not-suc-le-zero h)
   list-in (o ∷ os) pre (suc k) v h e =

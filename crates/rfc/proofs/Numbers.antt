@@ -8,7 +8,7 @@ use native.Mathlib.Omega.{arith}
 use lib.ListN.{length}
 use lib.Dec.{eqb}
 use borrow.Author.Tests.{lt-ltb, le-ltb, ltb-false, eq-eqb, ne-eqb}
-use Rattle.rfc.specs.Numbers.{Answer, given, refused, mostBytes, mostValue, tooLong, pastEnd, noCode, tooMuch, noRoom, Check, check, checked}
+use Rattle.rfc.specs.Numbers.{Answer, given, refused, mostBytes, mostValue, padCode, endCode, tooLong, pastEnd, noCode, tooMuch, noRoom, Check, check, checked}
 
 -- the check of this number is the first whose test holds
 pub data Refuses : List Check → ℕ → Type 0 where
@@ -64,17 +64,17 @@ unfolding pastEnd
 not-past place bytes h = le-ltb (length bytes) place h
 
 -- 6
-pub pad-code : (code : ℕ) → code ≡ 0 → noCode code ≡ true
+pub pad-code : (code : ℕ) → code ≡ padCode → noCode code ≡ true
 unfolding noCode
-pad-code code e = rw (eq-eqb code 0 e)
+pad-code code e = rw (eq-eqb code padCode e)
 
-pub end-code : (code : ℕ) → (code ≡ 0 → ⊥) → code ≡ 255 → noCode code ≡ true
+pub end-code : (code : ℕ) → (code ≡ padCode → ⊥) → code ≡ endCode → noCode code ≡ true
 unfolding noCode
-end-code code n e = rw (ne-eqb code 0 n, eq-eqb code 255 e)
+end-code code n e = rw (ne-eqb code padCode n, eq-eqb code endCode e)
 
-pub a-code : (code : ℕ) → (code ≡ 0 → ⊥) → (code ≡ 255 → ⊥) → noCode code ≡ false
+pub a-code : (code : ℕ) → (code ≡ padCode → ⊥) → (code ≡ endCode → ⊥) → noCode code ≡ false
 unfolding noCode
-a-code code n m = rw (ne-eqb code 0 n, ne-eqb code 255 m)
+a-code code n m = rw (ne-eqb code padCode n, ne-eqb code endCode m)
 
 -- 7
 pub much : (value : List ℕ) → mostValue < length value → tooMuch value ≡ true

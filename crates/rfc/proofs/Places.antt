@@ -9,6 +9,7 @@ use lib.Seq.{drop-cons, drop-drop, take-append-seam, drop-append-seam, length-ta
 use native.Mathlib.Decide.{decLe, decLt, ℕ-discrete}
 use mathlib.Core.Bool.{Bool, true, false, cond}
 use lib.Dec.{eqb, leb}
+use Rattle.rfc.specs.Numbers.{padCode, endCode}
 use Rattle.rfc.specs.Walk.{Run, cut, run, extend, furtherIn, further, joined, behind, walk, Found, stop, out, end, cutLength, cutValue}
 use Rattle.rfc.proofs.Walk.{further-none, further-other, further-no-length, further-no-value, further-more, walk-out, walk-pad, walk-end, walk-code, behind-none, behind-short, behind-whole}
 
@@ -35,13 +36,13 @@ module _ (area : List ℕ) (i : ℕ) where
   pub out-at : length area ≤ i → walk i (drop i area) ≡ stop out i
   out-at h = rw (drop-of-length-le area h) (walk-out i)
 
-  pub pad-at : i < length area → getD area i 0 ≡ 0 → walk i (drop i area) ≡ walk (i + 1) (drop (i + 1) area)
+  pub pad-at : i < length area → getD area i 0 ≡ padCode → walk i (drop i area) ≡ walk (i + 1) (drop (i + 1) area)
   pad-at h z = ap (walk i) (drop-one h) ∙ walk-pad i _ _ z
 
-  pub end-at : i < length area → getD area i 0 ≡ 255 → walk i (drop i area) ≡ stop end (i + 1)
+  pub end-at : i < length area → getD area i 0 ≡ endCode → walk i (drop i area) ≡ stop end (i + 1)
   end-at h e = ap (walk i) (drop-one h) ∙ walk-end i _ _ e
 
-  module _ (h : i < length area) (z : getD area i 0 ≡ 0 → ⊥) (e : getD area i 0 ≡ 255 → ⊥) where
+  module _ (h : i < length area) (z : getD area i 0 ≡ padCode → ⊥) (e : getD area i 0 ≡ endCode → ⊥) where
     pub cut-length-at : length area - i < 2 → walk i (drop i area) ≡ stop cutLength (i + 1)
     cut-length-at g = ap (walk i) (drop-last h g) ∙ walk-code i _ _ z e ∙ behind-none _ _
 

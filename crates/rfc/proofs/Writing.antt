@@ -8,7 +8,7 @@ use lib.ListN.{length, take, drop, length-append}
 use Rattle.facts.specs.Over.{over}
 use Rattle.facts.specs.Pieces.{pieces}
 use Rattle.facts.proofs.Pieces.{pieces-none, pieces-more, flatten-pieces, count-pieces}
-use Rattle.rfc.specs.Numbers.{Answer, given, refused, check, mostBytes, mostValue, mostPart, noRoom}
+use Rattle.rfc.specs.Numbers.{Answer, given, refused, check, mostBytes, mostValue, mostPart, padCode, endCode, noRoom}
 use Rattle.rfc.specs.Writing.{partsOf, encode, Write, writeChecks, answerTo, roomLeft, roomAfter, putting, writeBytes, close}
 use Rattle.rfc.proofs.Numbers.{Refuses, here, later, refuses, Clear, done, next, clears, given-is, given-clear, long, not-long, past, not-past, pad-code, end-code, a-code, much, not-much, full, not-full, room-left}
 
@@ -96,16 +96,16 @@ module _ (room : List ℕ) (place : ℕ) where
       pub close-8 : length room < place + 1 → answerTo (close room place) room place ≡ refused 8
       unfolding close writeChecks
       close-8 c =
-          write-refused _ room place (later (not-long room a) (later (not-past place room b) (here (full room place (255 ∷ []) c))))
+          write-refused _ room place (later (not-long room a) (later (not-past place room b) (here (full room place (endCode ∷ []) c))))
 
       module _ (c : place + 1 ≤ length room) where
         pub close-given : answerTo (close room place) room place ≡ given (place + 1)
         unfolding close writeChecks
         close-given =
-            write-given (close room place) room place 
-            (next (not-long room a) (next (not-past place room b) (next (not-full room place (255 ∷ []) c) done)))
+            write-given (close room place) room place
+            (next (not-long room a) (next (not-past place room b) (next (not-full room place (endCode ∷ []) c) done)))
 
-        pub close-left : roomAfter (close room place) room place ≡ over room place (255 ∷ [])
+        pub close-left : roomAfter (close room place) room place ≡ over room place (endCode ∷ [])
         unfolding close writeChecks
         close-left = given-left (close room place) room place _ close-given
 
@@ -121,18 +121,18 @@ module _ (code : ℕ) (v room : List ℕ) (place : ℕ) where
     bytes-4 b = write-refused _ room place (later (not-long room a) (here (past place room b)))
 
     module _ (b : place ≤ length room) where
-      pub bytes-pad : code ≡ 0 → answerTo (writeBytes code v room place) room place ≡ refused 6
+      pub bytes-pad : code ≡ padCode → answerTo (writeBytes code v room place) room place ≡ refused 6
       unfolding writeBytes writeChecks
       bytes-pad c =
           write-refused _ room place (later (not-long room a) (later (not-past place room b) (here (pad-code code c))))
 
-      module _ (c : code ≡ 0 → ⊥) where
-        pub bytes-end : code ≡ 255 → answerTo (writeBytes code v room place) room place ≡ refused 6
+      module _ (c : code ≡ padCode → ⊥) where
+        pub bytes-end : code ≡ endCode → answerTo (writeBytes code v room place) room place ≡ refused 6
         unfolding writeBytes writeChecks
         bytes-end d =
             write-refused _ room place (later (not-long room a) (later (not-past place room b) (here (end-code code c d))))
 
-        module _ (d : code ≡ 255 → ⊥) where
+        module _ (d : code ≡ endCode → ⊥) where
           pub bytes-7 : mostValue < length v → answerTo (writeBytes code v room place) room place ≡ refused 7
           unfolding writeBytes writeChecks
           bytes-7 e =

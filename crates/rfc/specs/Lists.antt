@@ -4,7 +4,7 @@ use Prim.Native.Nat.{ℕ, suc, zero, _≤_, _<_}
 use mathlib.Core.Path.{_≡_}
 use mathlib.Core.List.{List, [], _∷_, _++_}
 use lib.ListN.{length}
-use Rattle.rfc.specs.Numbers.{Answer, given, refused, needs, mostValue, mostPart}
+use Rattle.rfc.specs.Numbers.{Answer, given, refused, needs, mostValue, mostPart, endCode}
 use Rattle.rfc.specs.Walk.{Found, stop, option, step}
 use Rattle.rfc.specs.Writing.{encode, Write, answerTo, roomAfter, writeBytes, close}
 
@@ -37,7 +37,7 @@ Bytes (b ∷ l) = (b < 256) × Bytes l
 
 -- the list's bytes, as byte values, closed with End
 unfoldable pub encodeAll : List Opt → List ℕ
-encodeAll [] = 255 ∷ []
+encodeAll [] = endCode ∷ []
 encodeAll (o ∷ os) = encode mostPart (o .code) (o .value) ++ encodeAll os
 
 -- a run of writes: the place behind the last and what the room then holds, or the first refusal

@@ -28,6 +28,13 @@ mostValue = 4080
 abbrev pub mostPart : ℕ
 mostPart = 255
 
+-- the two codes that have no length and no value: Pad and End (RFC 2132, sections 3.1 and 3.2)
+abbrev pub padCode : ℕ
+padCode = 0
+
+abbrev pub endCode : ℕ
+endCode = 255
+
 -- 2: a message, area, room or value to be read has more than 65,535 bytes
 unfoldable pub tooLong : List ℕ → Bool
 tooLong bytes = ltb mostBytes (length bytes)
@@ -46,7 +53,7 @@ noElement index count = leb count index
 
 -- 6: the code to be read or written is 0 or 255
 unfoldable pub noCode : ℕ → Bool
-noCode code = eqb code 0 || eqb code 255
+noCode code = eqb code padCode || eqb code endCode
 
 -- 7: the whole value to be written has more than 4,080 bytes
 unfoldable pub tooMuch : List ℕ → Bool

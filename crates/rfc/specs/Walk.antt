@@ -7,7 +7,7 @@ use mathlib.Core.Bool.{Bool, cond}
 use lib.ListN.{length, take, drop}
 use lib.Dec.{eqb, leb}
 use Rattle.facts.specs.Over.{over}
-use Rattle.rfc.specs.Numbers.{Answer, given, refused, needs, Check, check, checked, tooLong, pastEnd}
+use Rattle.rfc.specs.Numbers.{Answer, given, refused, needs, Check, check, checked, padCode, endCode, tooLong, pastEnd}
 
 -- the five stops
 pub data Stop : Type 0 where
@@ -52,11 +52,11 @@ behind code at [] = stop cutLength at
 behind code at (n ∷ rest) =
     cond (leb n (length rest)) (joined code (take n rest) (at + 1 + n) (further code (drop n rest))) (stop cutValue (at + 1))
 
--- from the place `at`, with the bytes from there on: Pads (0) are skipped, End (255) stops
+-- from the place `at`, with the bytes from there on: Pads are skipped, and End stops
 unfoldable pub walk : ℕ → List ℕ → Found
 walk at [] = stop out at
 walk at (b ∷ rest) =
-    cond (eqb b 0) (walk (at + 1) rest) (cond (eqb b 255) (stop end (at + 1)) (behind b (at + 1) rest))
+    cond (eqb b padCode) (walk (at + 1) rest) (cond (eqb b endCode) (stop end (at + 1)) (behind b (at + 1) rest))
 
 -- 5: an option of two or more parts is refused where its value is longer than the room to join in
 unfoldable pub roomFor : ℕ → Found → Answer Found

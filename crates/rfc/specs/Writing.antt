@@ -5,7 +5,7 @@ use mathlib.Core.List.{List, [], _∷_, _++_}
 use lib.ListN.{length}
 use Rattle.facts.specs.Over.{over}
 use Rattle.facts.specs.Pieces.{pieces}
-use Rattle.rfc.specs.Numbers.{Answer, given, refused, needs, Check, check, checked, mostPart, tooLong, pastEnd, noCode, tooMuch, noRoom}
+use Rattle.rfc.specs.Numbers.{Answer, given, refused, needs, Check, check, checked, mostPart, endCode, tooLong, pastEnd, noCode, tooMuch, noRoom}
 
 -- a part for each piece: the code, the piece's length, the piece
 unfoldable pub partsOf : ℕ → List (List ℕ) → List ℕ
@@ -50,6 +50,6 @@ writeBytes code v room place =
       bytes = encode mostPart code v;
     }
 
--- End: one 255
+-- End
 unfoldable pub close : List ℕ → ℕ → Write
-close room place = record { checks = check (tooLong room) 2 ∷ check (pastEnd place room) 4 ∷ []; bytes = 255 ∷ [] }
+close room place = record { checks = check (tooLong room) 2 ∷ check (pastEnd place room) 4 ∷ []; bytes = endCode ∷ [] }

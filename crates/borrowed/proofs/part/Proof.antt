@@ -6,66 +6,50 @@ use Rattle.borrowed.proofs.Shown.{part-there, part-none}
 use borrow.Author.Needs.{needs}
 use Rattle.borrowed.proofs.part.Statement.{statement}
 use Rattle.borrowed.proofs.part.Tie as tie
-use Rattle.borrowed.proofs.part.Reads as reads
-use Rattle.borrowed.proofs.part.Lts as lts
 
--- src/lib.rt:77:16
 sub-result : tie.Need-sub-result
 sub-result c = search needs
 
--- src/lib.rt:77:16
 part-result-start : tie.Need-part-result-start
 part-result-start c = search needs
 
--- src/lib.rt:77:16
 part-result-end : tie.Need-part-result-end
 part-result-end c = search needs
 
--- src/lib.rt:77:9
 returns : tie.Need-returns
 returns c =
     let a = c .before .before .args in
     sym (part-none (a .bytes .now) (a .start) (a .len) (omega arith))
 
--- src/lib.rt:79:14
 sub-if2 : tie.Need-sub-if2
 sub-if2 c = search needs
 
--- src/lib.rt:80:16
 sub-result-2 : tie.Need-sub-result-2
 sub-result-2 c = search needs
 
--- src/lib.rt:80:16
 part-result-start-2 : tie.Need-part-result-start-2
 part-result-start-2 c = search needs
 
--- src/lib.rt:80:16
 part-result-end-2 : tie.Need-part-result-end-2
 part-result-end-2 c = search needs
 
--- src/lib.rt:80:9
 returns-2 : tie.Need-returns-2
 returns-2 c =
     let a = c .before .before .before .args in
     sym (part-none (a .bytes .now) (a .start) (a .len) (omega arith))
 
--- src/lib.rt:82:19
 add-result : tie.Need-add-result
 add-result c = search needs
 
--- src/lib.rt:82:5
 sub-result-3 : tie.Need-sub-result-3
 sub-result-3 c = search needs
 
--- src/lib.rt:82:5
 part-result-start-3 : tie.Need-part-result-start-3
 part-result-start-3 c = search needs
 
--- src/lib.rt:82:5
 part-result-end-3 : tie.Need-part-result-end-3
 part-result-end-3 c = search needs
 
--- src/lib.rt:73:1
 returns-3 : tie.Need-returns-3
 returns-3 c =
     let a = c .before .before .before .args in

@@ -12,40 +12,29 @@ use Rattle.borrowed.proofs.Runs.{cut-is}
 use Rattle.borrowed.proofs.Answers.{stops, same-answer}
 use Rattle.borrowed.proofs.read.Statement.{statement}
 use Rattle.borrowed.proofs.read.Tie as tie
-use Rattle.borrowed.proofs.read.Reads as reads
-use Rattle.borrowed.proofs.read.Lts as lts
-use Rattle.borrowed.proofs.parts.finish.Reads as finish-reads
-use Rattle.borrowed.proofs.parts.scan.Reads as scan-reads
 
--- src/lib.rt:52:9
 returns : tie.Need-returns
 returns c =
     let a = c .before .before .before .args in
     stops (a .area .now) (a .join .now) Out (a .at) _ (out-at (a .area .now) (a .at) (c .if1 .taken))
 
--- src/lib.rt:54:16
 shared-slice-read-code : tie.Need-shared-slice-read-code
 shared-slice-read-code c = search needs
 
--- src/lib.rt:56:41
 add-t15 : tie.Need-add-t15
 add-t15 c = search needs
 
--- src/lib.rt:56:9
 returns-2 : tie.Need-returns-2
 returns-2 c =
     let a = c .before .before .before .before .before .args in
     stops (a .area .now) (a .join .now) End (a .at + 1) _ (end-at (a .area .now) (a .at) (c .before .before .if1 .left) (c .if2 .taken))
 
--- src/lib.rt:58:8
 sub-if3 : tie.Need-sub-if3
 sub-if3 c = search needs
 
--- src/lib.rt:59:47
 add-t18 : tie.Need-add-t18
 add-t18 c = search needs
 
--- src/lib.rt:59:9
 returns-3 : tie.Need-returns-3
 returns-3 c =
     let a = c .before .before .before .before .before .before .args in
@@ -53,31 +42,24 @@ returns-3 c =
     stops (a .area .now) (a .join .now) CutLength (a .at + 1) _
     (cut-length-at (a .area .now) (a .at) in-area (c .before .before .before .before .before .before .pre .other in-area) (c .before .if2 .left) (c .if3 .taken))
 
--- src/lib.rt:61:20
 add-len : tie.Need-add-len
 add-len c = search needs
 
--- src/lib.rt:61:15
 shared-slice-read-len : tie.Need-shared-slice-read-len
 shared-slice-read-len c = search needs
 
--- src/lib.rt:61:15
 cast-len : tie.Need-cast-len
 cast-len c = omega (arith, c .shared-slice-known3 .given (c .before .before .before .before .before .before .before .args .at + 1))
 
--- src/lib.rt:62:28
 add-if4 : tie.Need-add-if4
 add-if4 c = search needs
 
--- src/lib.rt:62:14
 sub-if4 : tie.Need-sub-if4
 sub-if4 c = search needs
 
--- src/lib.rt:63:46
 add-t22 : tie.Need-add-t22
 add-t22 c = search needs
 
--- src/lib.rt:63:9
 returns-4 : tie.Need-returns-4
 returns-4 c =
     let a = c .before .before .before .before .before .before .before .before .args in
@@ -85,27 +67,21 @@ returns-4 c =
     stops (a .area .now) (a .join .now) CutValue (a .at + 2) _
     (cut-value-at (a .area .now) (a .at) in-area (c .before .before .before .before .before .before .before .before .pre .other in-area) (c .before .before .before .if2 .left) (omega arith) (c .if4 .taken))
 
--- src/lib.rt:65:16
 add-next : tie.Need-add-next
 add-next c = search needs
 
--- src/lib.rt:65:16
 add-next-2 : tie.Need-add-next-2
 add-next-2 c = search needs
 
--- src/lib.rt:66:11
 scan-requires : tie.Need-scan-requires
 scan-requires c κs = search needs
 
--- src/lib.rt:67:35
 enum-told : tie.Need-enum-told
 enum-told c = search needs
 
--- src/lib.rt:68:22
 enum-known-parts : tie.Need-enum-known-parts
 enum-known-parts c = search needs
 
--- src/lib.rt:68:44
 finish-requires : tie.Need-finish-requires
 finish-requires c κs =
     record {
@@ -116,7 +92,6 @@ finish-requires c κs =
       rest = sym (c .before .before .parts .given .1) ∙ c .before .before .before .before .scan .ensures;
     }
 
--- src/lib.rt:46:1
 returns-5 : tie.Need-returns-5
 returns-5 c =
     let a = c .before .before .before .before .before .before .before .before .before .before .before .args in
@@ -126,11 +101,9 @@ returns-5 c =
     (whole-at (a .area .now) (a .at) in-area (c .before .before .before .before .before .before .before .before .before .before .before .pre .other in-area) (c .before .before .before .before .before .before .if2 .left) (omega arith)
     ∙ joined-cut _ _ _ _ (cut-is _ (sym (c .enum-told .given .1) ∙ c .before .before .scan .ensures)))
 
--- src/lib.rt:46:1
 same-length : tie.Need-same-length
 same-length c = search needs
 
--- src/lib.rt:46:1
 returns-6 : tie.Need-returns-6
 returns-6 c =
     let a = c .before .before .before .before .before .before .before .before .before .before .before .before .before .before .before .before .args in

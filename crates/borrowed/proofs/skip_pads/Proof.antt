@@ -7,8 +7,6 @@ use Rattle.rfc.specs.Walk.{walk}
 use Rattle.rfc.proofs.Places.{pad-at}
 use Rattle.borrowed.proofs.skip_pads.Statement.{statement}
 use Rattle.borrowed.proofs.skip_pads.Tie as tie
-use Rattle.borrowed.proofs.skip_pads.Reads as reads
-use Rattle.borrowed.proofs.skip_pads.Lts as lts
 
 abbrev Inv-loop : tie.InvT-loop
 Inv-loop area place i₀ i = (i ≤ length area) × (walk place (drop place area) ≡ walk i (drop i area))
@@ -16,35 +14,28 @@ Inv-loop area place i₀ i = (i ≤ length area) × (walk place (drop place area
 abbrev μ-loop : tie.MeasureT-loop
 μ-loop area place i₀ i = length area - i
 
--- src/lib.rt:35:5
 loop-holds : tie.Need-loop-holds Inv-loop μ-loop
 loop-holds c = (c .pre, refl)
 
--- src/lib.rt:36:12
 shared-slice-read-if1 : tie.Need-shared-slice-read-if1 Inv-loop μ-loop
 shared-slice-read-if1 c = omega arith
 
--- src/lib.rt:37:13
 returns : tie.Need-returns Inv-loop μ-loop
 returns c =
     let l = c .before .before .before .loop in
     record { within = l .inv .0; same = l .inv .1; other = λ _. c .if1 .taken }
 
--- src/lib.rt:39:9
 add-i : tie.Need-add-i Inv-loop μ-loop
 add-i c = omega arith
 
--- src/lib.rt:35:5
 loop-less : tie.Need-loop-less Inv-loop μ-loop
 loop-less c = omega arith
 
--- src/lib.rt:35:5
 loop-again : tie.Need-loop-again Inv-loop μ-loop
 loop-again c =
     let l = c .before .before .before .loop in
     (omega arith, l .inv .1 ∙ pad-at (c .before .before .before .before .args .area .now) (l .i) (omega arith) (c .if1 .left))
 
--- src/lib.rt:30:1
 returns-2 : tie.Need-returns-2 Inv-loop μ-loop
 returns-2 c =
     let l = c .before .loop in

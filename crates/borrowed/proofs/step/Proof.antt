@@ -7,38 +7,28 @@ use Rattle.rfc.proofs.Walk.{step-2, step-4, step-walks}
 use Rattle.borrowed.proofs.Answers.{refuses, same-answer}
 use Rattle.borrowed.proofs.step.Statement.{statement}
 use Rattle.borrowed.proofs.step.Tie as tie
-use Rattle.borrowed.proofs.step.Reads as reads
-use Rattle.borrowed.proofs.step.Lts as lts
-use Rattle.borrowed.proofs.read.Reads as read-reads
-use Rattle.borrowed.proofs.skip_pads.Reads as skip-pads-reads
 
--- src/lib.rt:21:9
 returns : tie.Need-returns
 returns c =
     let a = c .before .before .before .args in
     refuses (a .area .now) (a .join .now) _ 2 (step-2 (a .area .now) (a .place) (length (a .join .now)) (c .if1 .taken))
 
--- src/lib.rt:24:9
 returns-2 : tie.Need-returns-2
 returns-2 c =
     let a = c .before .before .before .before .args in
     refuses (a .area .now) (a .join .now) _ 4 (step-4 (a .area .now) (a .place) (length (a .join .now)) (c .before .if1 .left) (c .if2 .taken))
 
--- src/lib.rt:26:9
 skip-pads-requires : tie.Need-skip-pads-requires
 skip-pads-requires c κs = search needs
 
--- src/lib.rt:27:5
 read-requires : tie.Need-read-requires
 read-requires c κs =
     let skipped = c .before .skip-pads .ensures in
     record { short = omega arith; within = skipped .within; other = skipped .other }
 
--- src/lib.rt:16:1
 same-length : tie.Need-same-length
 same-length c = search needs
 
--- src/lib.rt:16:1
 returns-3 : tie.Need-returns-3
 returns-3 c =
     let a = c .before .before .before .before .before .before .before .before .before .args in

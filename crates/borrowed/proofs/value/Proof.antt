@@ -4,36 +4,27 @@ use Rattle.borrowed.proofs.Shown.{part-there, shown-many, shown-none, s
 use borrow.Author.Needs.{needs}
 use Rattle.borrowed.proofs.value.Statement.{statement}
 use Rattle.borrowed.proofs.value.Tie as tie
-use Rattle.borrowed.proofs.value.Reads as reads
-use Rattle.borrowed.proofs.value.Lts as lts
-use Rattle.borrowed.proofs.part.Reads as part-reads
 
--- src/lib.rt:91:9
 part-requires : tie.Need-part-requires
 part-requires c κs = search needs
 
--- src/lib.rt:91:9
 returns : tie.Need-returns
 returns c =
     let a = c .before .before .before .before .args in
     c .part .ensures ∙ sym (shown-many (a .parts) (a .len) (a .place) (a .area .now) (a .join .now) (c .before .if1 .taken))
 
--- src/lib.rt:94:9
 part-requires-2 : tie.Need-part-requires-2
 part-requires-2 c κs = search needs
 
--- src/lib.rt:94:9
 returns-2 : tie.Need-returns-2
 returns-2 c =
     let a = c .before .before .before .before .before .args in
     c .part2 .ensures ∙ part-there (a .area .now) 0 0 (omega arith)
     ∙ sym (shown-none (a .parts) (a .len) (a .place) (a .area .now) (a .join .now) (c .before .before .if1 .left) (c .before .if2 .taken))
 
--- src/lib.rt:96:5
 part-requires-3 : tie.Need-part-requires-3
 part-requires-3 c κs = search needs
 
--- src/lib.rt:87:1
 returns-3 : tie.Need-returns-3
 returns-3 c =
     let a = c .before .before .before .before .before .args in

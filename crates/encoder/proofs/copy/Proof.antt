@@ -8,8 +8,6 @@ use Rattle.facts.specs.Over.{over}
 use Rattle.facts.proofs.Over.{over-nil, copy-turn}
 use Rattle.encoder.proofs.copy.Statement.{statement}
 use Rattle.encoder.proofs.copy.Tie as tie
-use Rattle.encoder.proofs.copy.Reads as reads
-use Rattle.encoder.proofs.copy.Lts as lts
 
 abbrev Inv-loop : tie.InvT-loop
 Inv-loop from to₀ place i₀ to i = (i ≤ length from) × (to ≡ over to₀ place (take i from)) × (length to ≡ length to₀)
@@ -17,48 +15,38 @@ Inv-loop from to₀ place i₀ to i = (i ≤ length from) × (to ≡ over to₀ 
 abbrev μ-loop : tie.MeasureT-loop
 μ-loop from to₀ place i₀ to i = length from - i
 
--- src/lib.rt:38:5
 loop-holds : tie.Need-loop-holds Inv-loop μ-loop
 loop-holds c = (omega arith, sym (over-nil _ _), refl)
 
--- src/lib.rt:39:25
 shared-slice-read-to : tie.Need-shared-slice-read-to Inv-loop μ-loop
 shared-slice-read-to c = omega arith
 
--- src/lib.rt:39:12
 add-to : tie.Need-add-to Inv-loop μ-loop
 add-to c = omega arith
 
--- src/lib.rt:39:9
 slice-write-to : tie.Need-slice-write-to Inv-loop μ-loop
 slice-write-to c = omega arith
 
--- src/lib.rt:40:9
 add-i : tie.Need-add-i Inv-loop μ-loop
 add-i c = omega arith
 
--- src/lib.rt:38:5
 loop-less : tie.Need-loop-less Inv-loop μ-loop
 loop-less c = omega arith
 
--- src/lib.rt:38:5
 loop-again : tie.Need-loop-again Inv-loop μ-loop
-loop-again c = 
+loop-again c =
     let l = c .before .before .loop in
-    let a = c .before .before .before .args in
-    (
+    let a = c .before .before .before .args in (
       omega arith,
       ap (λ (x : List ℕ). set x (a .place + l .i) (getD (a .from .now) (l .i) 0)) (l .inv .1) ∙ copy-turn (a .to .now) (a .place) (a .from .now) (l .i) (omega arith) (omega arith),
       length-set (l .to) (a .place + l .i) _ ∙ l .inv .2,
     )
 
--- src/lib.rt:33:1
 same-length : tie.Need-same-length Inv-loop μ-loop
 same-length c = c .before .loop .inv .2
 
--- src/lib.rt:33:1
 returns : tie.Need-returns Inv-loop μ-loop
-returns c = 
+returns c =
     let l = c .before .loop in
     let a = c .before .before .args in
     let e : l .i ≡ length (a .from .now) = omega arith in

@@ -6,39 +6,29 @@ use Rattle.encoder.proofs.Answers.{refuses, writes}
 use borrow.Author.Needs.{needs}
 use Rattle.encoder.proofs.write_slice.Statement.{statement}
 use Rattle.encoder.proofs.write_slice.Tie as tie
-use Rattle.encoder.proofs.write_slice.Reads as reads
-use Rattle.encoder.proofs.write_slice.Lts as lts
-use Rattle.encoder.proofs.copy.Reads as copy-reads
 
--- src/lib.rt:23:9
 returns : tie.Need-returns
 returns c =
     let a = c .before .before .before .args in
     refuses _ (a .room .now) (a .place) 4 (putting-4 (a .bytes .now) (a .room .now) (a .place) (c .if1 .taken))
 
--- src/lib.rt:25:22
 sub-if2 : tie.Need-sub-if2
 sub-if2 c = search needs
 
--- src/lib.rt:26:9
 returns-2 : tie.Need-returns-2
 returns-2 c =
     let a = c .before .before .before .before .args in
     refuses _ (a .room .now) (a .place) 8 (putting-8 (a .bytes .now) (a .room .now) (a .place) (c .before .if1 .left) (omega arith))
 
--- src/lib.rt:28:5
+add-to : tie.Need-add-to
+add-to c = search needs
+
 copy-requires : tie.Need-copy-requires
 copy-requires c κs = search needs
 
--- src/lib.rt:29:17
-add-t6 : tie.Need-add-t6
-add-t6 c = search needs
-
--- src/lib.rt:19:1
 same-length : tie.Need-same-length
 same-length c = search needs
 
--- src/lib.rt:19:1
 returns-3 : tie.Need-returns-3
 returns-3 c =
     let a = c .before .before .before .before .before .before .before .before .args in
@@ -49,4 +39,11 @@ returns-3 c =
 
 pub write-slice-spec : {M : Type 1} → statement M
 write-slice-spec =
-    tie.close (tie.spec returns sub-if2 returns-2 copy-requires add-t6 same-length returns-3)
+    tie.close (tie.spec
+    returns
+    sub-if2
+    returns-2
+    add-to
+    copy-requires
+    same-length
+    returns-3)

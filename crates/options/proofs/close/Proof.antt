@@ -7,40 +7,31 @@ use Rattle.encoder.proofs.Answers.{refuses, writes}
 use borrow.Author.Needs.{needs}
 use Rattle.options.proofs.close.Statement.{statement}
 use Rattle.options.proofs.close.Tie as tie
-use Rattle.options.proofs.close.Reads as reads
-use Rattle.options.proofs.close.Lts as lts
 
--- src/lib.rt:48:9
 returns : tie.Need-returns
 returns c =
     let a = c .before .args in
     refuses _ (a .room .now) (a .place) 2 (close-2 (a .room .now) (a .place) (c .if1 .taken))
 
--- src/lib.rt:51:9
 returns-2 : tie.Need-returns-2
 returns-2 c =
     let a = c .before .before .args in
     refuses _ (a .room .now) (a .place) 4 (close-4 (a .room .now) (a .place) (c .before .if1 .left) (c .if2 .taken))
 
--- src/lib.rt:54:9
 returns-3 : tie.Need-returns-3
 returns-3 c =
     let a = c .before .before .before .args in
     refuses _ (a .room .now) (a .place) 8 (close-8 (a .room .now) (a .place) (c .before .before .if1 .left) (c .before .if2 .left) (omega arith))
 
--- src/lib.rt:56:5
+add-to : tie.Need-add-to
+add-to c = search needs
+
 slice-write-room : tie.Need-slice-write-room
 slice-write-room c = search needs
 
--- src/lib.rt:57:17
-add-t3 : tie.Need-add-t3
-add-t3 c = search needs
-
--- src/lib.rt:44:1
 same-length : tie.Need-same-length
 same-length c = search needs
 
--- src/lib.rt:44:1
 returns-4 : tie.Need-returns-4
 returns-4 c =
     let a = c .before .before .before .args in
@@ -52,4 +43,11 @@ returns-4 c =
 
 pub close-spec : {M : Type 1} → statement M
 close-spec =
-    tie.close (tie.spec returns returns-2 returns-3 slice-write-room add-t3 same-length returns-4)
+    tie.close (tie.spec
+    returns
+    returns-2
+    returns-3
+    add-to
+    slice-write-room
+    same-length
+    returns-4)

@@ -10,55 +10,40 @@ use Rattle.options.proofs.Parts.{part-over}
 use borrow.Author.Needs.{needs}
 use Rattle.options.proofs.put_part.Statement.{statement}
 use Rattle.options.proofs.put_part.Tie as tie
-use Rattle.options.proofs.put_part.Reads as reads
-use Rattle.options.proofs.put_part.Lts as lts
-use Rattle.encoder.proofs.write_slice.Reads as write-slice-reads
 
--- src/lib.rt:87:5
 slice-write-room : tie.Need-slice-write-room
 slice-write-room c = search needs
 
--- src/lib.rt:88:20
 cast-room : tie.Need-cast-room
 cast-room c = search needs
 
--- src/lib.rt:88:10
 add-room : tie.Need-add-room
 add-room c = search needs
 
--- src/lib.rt:88:5
 slice-write-room-2 : tie.Need-slice-write-room-2
 slice-write-room-2 c = simp length-set (omega arith)
 
--- src/lib.rt:89:32
 add-write-slice : tie.Need-add-write-slice
 add-write-slice c = search needs
 
--- src/lib.rt:89:53
 add-write-slice-2 : tie.Need-add-write-slice-2
 add-write-slice-2 c = search needs
 
--- src/lib.rt:89:40
 sub-write-slice : tie.Need-sub-write-slice
 sub-write-slice c = search needs
 
--- src/lib.rt:89:40
 part-write-slice-start : tie.Need-part-write-slice-start
 part-write-slice-start c = search needs
 
--- src/lib.rt:89:40
 part-write-slice-end : tie.Need-part-write-slice-end
 part-write-slice-end c = search needs
 
--- src/lib.rt:89:5
 write-slice-requires : tie.Need-write-slice-requires
 write-slice-requires c κs = search needs
 
--- src/lib.rt:83:1
 same-length : tie.Need-same-length
 same-length c = c .before .before .write-slice .kept .0 ∙ simp length-set
 
--- src/lib.rt:83:1
 returns : tie.Need-returns
 returns c =
     let a = c .before .before .before .before .before .before .before .args in

@@ -7,10 +7,6 @@ use Rattle.rfc.specs.Writing.{encode}
 use Rattle.options.proofs.Parts.{Sofar, sofar-none, part-fits, sofar-more, sofar-all}
 use Rattle.options.proofs.put_parts.Statement.{statement}
 use Rattle.options.proofs.put_parts.Tie as tie
-use Rattle.options.proofs.put_parts.Reads as reads
-use Rattle.options.proofs.put_parts.Lts as lts
-use Rattle.options.proofs.next_piece.Reads as next-piece-reads
-use Rattle.options.proofs.put_part.Reads as put-part-reads
 
 abbrev Inv-loop : tie.InvT-loop
 Inv-loop room₀ place code value done₀ from₀ room done from = Sofar room₀ room value place code done from
@@ -26,43 +22,33 @@ fits c =
     let l = c .before .before .loop in
     part-fits (a .room .now) (l .room) (a .value .now) (a .place) (a .code) (l .done) (l .from) (c .next-piece .result) (l .inv) (c .before .loop-test .taken) (c .next-piece .ensures)
 
--- src/lib.rt:67:5
 loop-holds : tie.Need-loop-holds Inv-loop μ-loop
 loop-holds c = sofar-none _ _ _ _
 
--- src/lib.rt:68:28
 sub-next-piece : tie.Need-sub-next-piece Inv-loop μ-loop
 sub-next-piece c = omega arith
 
--- src/lib.rt:68:13
 next-piece-requires : tie.Need-next-piece-requires Inv-loop μ-loop
 next-piece-requires c κs = search needs
 
--- src/lib.rt:69:24
 add-put-part : tie.Need-add-put-part Inv-loop μ-loop
 add-put-part c = omega (arith, fits (c .before))
 
--- src/lib.rt:69:9
 put-part-requires : tie.Need-put-part-requires Inv-loop μ-loop
 put-part-requires c κs = omega (arith, fits (c .before))
 
--- src/lib.rt:70:16
 add-done : tie.Need-add-done Inv-loop μ-loop
 add-done c = omega (arith, fits (c .before .before .before .before))
 
--- src/lib.rt:70:16
 add-done-2 : tie.Need-add-done-2 Inv-loop μ-loop
 add-done-2 c = omega (arith, fits (c .before .before .before .before))
 
--- src/lib.rt:71:9
 add-from : tie.Need-add-from Inv-loop μ-loop
 add-from c = omega (arith, fits (c .before .before .before .before))
 
--- src/lib.rt:67:5
 loop-less : tie.Need-loop-less Inv-loop μ-loop
 loop-less c = omega (arith, fits (c .before .before .before .before))
 
--- src/lib.rt:67:5
 loop-again : tie.Need-loop-again Inv-loop μ-loop
 loop-again c =
     let a = c .before .before .before .before .before .before .before .before .before .args in
@@ -70,11 +56,9 @@ loop-again c =
     sofar-more (a .room .now) (l .room) (a .value .now) (a .place) (a .code) (l .done) (l .from) (c .before .before .before .before .next-piece .result) (l .inv) (c .before .before .before .before .before .loop-test .taken) (c .before .before .before .before .next-piece .ensures)
     (c .before .before .put-part .last .0) (omega arith) (c .before .before .put-part .kept .0) (c .before .before .put-part .ensures)
 
--- src/lib.rt:61:1
 same-length : tie.Need-same-length Inv-loop μ-loop
 same-length c = c .before .loop .inv .keeps
 
--- src/lib.rt:61:1
 returns : tie.Need-returns Inv-loop μ-loop
 returns c = sofar-all _ _ _ _ _ _ _ (c .before .loop .inv) (c .loop-test .left)
 

@@ -10,87 +10,69 @@ use Rattle.encoder.proofs.Answers.{refuses, writes}
 use borrow.Author.Needs.{needs}
 use Rattle.options.proofs.write_bytes.Statement.{statement}
 use Rattle.options.proofs.write_bytes.Tie as tie
-use Rattle.options.proofs.write_bytes.Reads as reads
-use Rattle.options.proofs.write_bytes.Lts as lts
-use Rattle.options.proofs.put_parts.Reads as put-parts-reads
 
--- src/lib.rt:21:9
 returns : tie.Need-returns
 returns c =
     let a = c .before .before .before .args in
     refuses _ (a .room .now) (a .place) 2
     (bytes-2 (a .code) (a .value .now) (a .room .now) (a .place) (c .if1 .taken))
 
--- src/lib.rt:24:9
 returns-2 : tie.Need-returns-2
 returns-2 c =
     let a = c .before .before .before .before .args in
     refuses _ (a .room .now) (a .place) 4
     (bytes-4 (a .code) (a .value .now) (a .room .now) (a .place) (c .before .if1 .left) (c .if2 .taken))
 
--- src/lib.rt:27:9
 returns-3 : tie.Need-returns-3
 returns-3 c =
     let a = c .before .before .before .before .before .args in
     refuses _ (a .room .now) (a .place) 6
     (bytes-pad (a .code) (a .value .now) (a .room .now) (a .place) (c .before .before .if1 .left) (c .before .if2 .left) (c .if3 .taken))
 
--- src/lib.rt:30:9
 returns-4 : tie.Need-returns-4
 returns-4 c =
     let a = c .before .before .before .before .before .before .args in
     refuses _ (a .room .now) (a .place) 6
     (bytes-end (a .code) (a .value .now) (a .room .now) (a .place) (c .before .before .before .if1 .left) (c .before .before .if2 .left) (c .before .if3 .left) (c .if4 .taken))
 
--- src/lib.rt:33:9
 returns-5 : tie.Need-returns-5
 returns-5 c =
     let a = c .before .before .before .before .before .before .before .args in
     refuses _ (a .room .now) (a .place) 7
     (bytes-7 (a .code) (a .value .now) (a .room .now) (a .place) (c .before .before .before .before .if1 .left) (c .before .before .before .if2 .left) (c .before .before .if3 .left) (c .before .if4 .left) (c .if5 .taken))
 
--- src/lib.rt:35:51
 sub-size : tie.Need-sub-size
 sub-size c = search needs
 
--- src/lib.rt:35:36
 add-size : tie.Need-add-size
 add-size c = search needs
 
--- src/lib.rt:35:30
 mul-size : tie.Need-mul-size
 mul-size c = search needs
 
--- src/lib.rt:35:16
 add-size-2 : tie.Need-add-size-2
 add-size-2 c = search needs
 
--- src/lib.rt:36:15
 sub-if6 : tie.Need-sub-if6
 sub-if6 c = search needs
 
--- src/lib.rt:37:9
 returns-6 : tie.Need-returns-6
 returns-6 c =
     let a = c .before .before .before .before .before .before .before .before .args in
     refuses _ (a .room .now) (a .place) 8
     (bytes-8 (a .code) (a .value .now) (a .room .now) (a .place) (c .before .before .before .before .before .if1 .left) (c .before .before .before .before .if2 .left) (c .before .before .before .if3 .left) (c .before .before .if4 .left) (c .before .if5 .left) (omega (arith, length-encode mostPart (lit< tt) (a .code) (a .value .now))))
 
--- src/lib.rt:39:5
+add-to : tie.Need-add-to
+add-to c = search needs
+
 put-parts-requires : tie.Need-put-parts-requires
 put-parts-requires c κs =
     let a = c .before .before .before .before .before .before .before .before .before .args in
     omega (arith, length-encode mostPart (lit< tt) (a .code) (a .value .now))
 
--- src/lib.rt:40:17
-add-t10 : tie.Need-add-t10
-add-t10 c = search needs
-
--- src/lib.rt:17:1
 same-length : tie.Need-same-length
 same-length c = search needs
 
--- src/lib.rt:17:1
 returns-7 : tie.Need-returns-7
 returns-7 c =
     let a = c .before .before .before .before .before .before .before .before .before .before .before .before .args in
@@ -121,7 +103,7 @@ write-bytes-spec =
     add-size-2
     sub-if6
     returns-6
+    add-to
     put-parts-requires
-    add-t10
     same-length
     returns-7)

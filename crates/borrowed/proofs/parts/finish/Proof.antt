@@ -3,81 +3,65 @@ use borrow.Author.Needs.{needs}
 use Rattle.borrowed.proofs.Answers.{fits, all-parts, one-part, too-long, joined-parts}
 use Rattle.borrowed.proofs.parts.finish.Statement.{statement}
 use Rattle.borrowed.proofs.parts.finish.Tie as tie
-use Rattle.borrowed.proofs.parts.finish.Reads as reads
-use Rattle.borrowed.proofs.parts.finish.Lts as lts
-use Rattle.borrowed.proofs.parts.join_parts.Reads as join-parts-reads
 
--- src/parts.rt:54:17
 add-total : tie.Need-add-total
 add-total c =
     let a = c .before .before .args in
     omega (arith, fits (a .area .now) (a .join .now) (a .at) (a .code) (a .parts) (a .len) (a .more) (c .before .before .pre))
 
--- src/parts.rt:55:17
 add-place : tie.Need-add-place
 add-place c =
     let a = c .before .before .args in
     omega (arith, fits (a .area .now) (a .join .now) (a .at) (a .code) (a .parts) (a .len) (a .more) (c .before .before .pre))
 
--- src/parts.rt:55:17
 add-place-2 : tie.Need-add-place-2
 add-place-2 c =
     let a = c .before .before .args in
     omega (arith, fits (a .area .now) (a .join .now) (a .at) (a .code) (a .parts) (a .len) (a .more) (c .before .before .pre))
 
--- src/parts.rt:55:32
 mul-place : tie.Need-mul-place
 mul-place c =
     let a = c .before .before .args in
     omega (arith, fits (a .area .now) (a .join .now) (a .at) (a .code) (a .parts) (a .len) (a .more) (c .before .before .pre))
 
--- src/parts.rt:55:17
 add-place-3 : tie.Need-add-place-3
 add-place-3 c =
     let a = c .before .before .args in
     omega (arith, fits (a .area .now) (a .join .now) (a .at) (a .code) (a .parts) (a .len) (a .more) (c .before .before .pre))
 
--- src/parts.rt:55:17
 add-place-4 : tie.Need-add-place-4
 add-place-4 c =
     let a = c .before .before .args in
     omega (arith, fits (a .area .now) (a .join .now) (a .at) (a .code) (a .parts) (a .len) (a .more) (c .before .before .pre))
 
--- src/parts.rt:57:9
 returns : tie.Need-returns
 returns c =
     let a = c .before .before .before .args in
     one-part (a .area .now) (a .join .now) (a .at) (a .code) (a .parts) (a .len) (a .more) (c .before .before .before .pre) (c .if1 .taken)
 
--- src/parts.rt:65:9
 returns-2 : tie.Need-returns-2
 returns-2 c =
     let a = c .before .before .before .before .args in
     too-long (a .area .now) (a .join .now) (a .at) (a .code) (a .parts) (a .len) (a .more) (c .before .before .before .before .pre) (c .before .if1 .left) (c .if2 .taken)
 
--- src/parts.rt:67:32
 add-join-parts : tie.Need-add-join-parts
 add-join-parts c =
     let a = c .before .before .before .before .args in
     omega (arith, fits (a .area .now) (a .join .now) (a .at) (a .code) (a .parts) (a .len) (a .more) (c .before .before .before .before .pre))
 
--- src/parts.rt:67:5
 join-parts-requires : tie.Need-join-parts-requires
 join-parts-requires c κs =
     let a = c .before .before .before .before .before .args in
     all-parts (a .area .now) (a .join .now) (a .at) (a .code) (a .parts) (a .len) (a .more) (c .before .before .before .before .before .pre) (c .before .if2 .left)
 
--- src/parts.rt:70:16
 add-t11 : tie.Need-add-t11
 add-t11 c =
     let a = c .before .before .before .before .before .before .before .before .args in
     omega (arith, fits (a .area .now) (a .join .now) (a .at) (a .code) (a .parts) (a .len) (a .more) (c .before .before .before .before .before .before .before .before .pre))
 
--- src/parts.rt:40:1
 same-length : tie.Need-same-length
 same-length c = search needs
 
--- src/parts.rt:40:1
 returns-3 : tie.Need-returns-3
 returns-3 c =
     let a = c .before .before .before .before .before .before .before .before .args in

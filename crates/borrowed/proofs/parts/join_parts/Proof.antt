@@ -9,9 +9,6 @@ use Rattle.encoder.proofs.Answers.{put-over}
 use Rattle.borrowed.proofs.Joining.{Joined, joined-none, part-within, value-fits, joined-more, joined-all}
 use Rattle.borrowed.proofs.parts.join_parts.Statement.{statement}
 use Rattle.borrowed.proofs.parts.join_parts.Tie as tie
-use Rattle.borrowed.proofs.parts.join_parts.Reads as reads
-use Rattle.borrowed.proofs.parts.join_parts.Lts as lts
-use Rattle.encoder.proofs.write_slice.Reads as write-slice-reads
 
 abbrev Inv-loop : tie.InvT-loop
 Inv-loop area at code parts join₀ i₀ to₀ k₀ join i to k = Joined area at code parts join₀ join i to k
@@ -35,71 +32,54 @@ fits c =
     let all-fit = c .before .before .before .before .pre .fits in
     omega (arith, value-fits (a .area .now) (a .at) (a .code) (a .parts) (a .join .now) (l .join) (l .i) (l .to) (l .k) (l .inv) (c .loop-test .taken))
 
--- src/parts.rt:84:5
 loop-holds : tie.Need-loop-holds Inv-loop μ-loop
 loop-holds c = joined-none _ _ _ _ _ (c .before .before .pre)
 
--- src/parts.rt:85:22
 add-n : tie.Need-add-n Inv-loop μ-loop
 add-n c = omega (arith, within c)
 
--- src/parts.rt:85:17
 shared-slice-read-n : tie.Need-shared-slice-read-n Inv-loop μ-loop
 shared-slice-read-n c = omega (arith, within (c .before))
 
--- src/parts.rt:85:17
 cast-n : tie.Need-cast-n Inv-loop μ-loop
 cast-n c = omega (arith, c .shared-slice-known2 .given (c .before .before .loop .i + 1))
 
--- src/parts.rt:86:46
 add-write-slice : tie.Need-add-write-slice Inv-loop μ-loop
 add-write-slice c = omega (arith, within (c .before .before))
 
--- src/parts.rt:86:53
 add-write-slice-2 : tie.Need-add-write-slice-2 Inv-loop μ-loop
 add-write-slice-2 c = omega (arith, within (c .before .before))
 
--- src/parts.rt:86:53
 add-write-slice-3 : tie.Need-add-write-slice-3 Inv-loop μ-loop
 add-write-slice-3 c = omega (arith, within (c .before .before))
 
--- src/parts.rt:86:40
 sub-write-slice : tie.Need-sub-write-slice Inv-loop μ-loop
 sub-write-slice c = omega (arith, within (c .before .before))
 
--- src/parts.rt:86:40
 part-write-slice-start : tie.Need-part-write-slice-start Inv-loop μ-loop
 part-write-slice-start c = omega (arith, within (c .before .before))
 
--- src/parts.rt:86:40
 part-write-slice-end : tie.Need-part-write-slice-end Inv-loop μ-loop
 part-write-slice-end c = omega (arith, within (c .before .before))
 
--- src/parts.rt:86:9
 write-slice-requires : tie.Need-write-slice-requires Inv-loop μ-loop
 write-slice-requires c κs = search needs
 
--- src/parts.rt:87:13
 add-i : tie.Need-add-i Inv-loop μ-loop
 add-i c = omega (arith, within (c .before .before .before .before .before .before))
 
--- src/parts.rt:87:13
 add-i-2 : tie.Need-add-i-2 Inv-loop μ-loop
 add-i-2 c = omega (arith, within (c .before .before .before .before .before .before))
 
--- src/parts.rt:88:9
 add-to : tie.Need-add-to Inv-loop μ-loop
 add-to c = omega (arith, fits (c .before .before .before .before .before .before))
 
--- src/parts.rt:89:9
 add-k : tie.Need-add-k Inv-loop μ-loop
 add-k c = omega arith
 
--- src/parts.rt:84:5
 loop-less : tie.Need-loop-less Inv-loop μ-loop
 loop-less c = omega arith
 
--- src/parts.rt:84:5
 loop-again : tie.Need-loop-again Inv-loop μ-loop
 loop-again c =
     let a = c .before .before .before .before .before .before .before .before .before .before .args in
@@ -113,11 +93,9 @@ loop-again c =
     (put-over (take (l .i + 2 + n - (l .i + 2)) (drop (l .i + 2) area)) (l .join) _ (l .to) _ there (c .before .before .write-slice .ensures)
     ∙ ap (λ (m : ℕ). over (l .join) (l .to) (take m (drop (l .i + 2) area))) e)
 
--- src/parts.rt:77:1
 same-length : tie.Need-same-length Inv-loop μ-loop
 same-length c = c .before .loop .inv .keeps
 
--- src/parts.rt:77:1
 returns : tie.Need-returns Inv-loop μ-loop
 returns c =
     let a = c .before .before .before .before .args in

@@ -8,8 +8,6 @@ use Rattle.borrowed.specs.Walked.{sizeOf}
 use Rattle.borrowed.proofs.Runs.{grow, grow-none, grow-run, grow-cut, scan-turn}
 use Rattle.borrowed.proofs.parts.scan.Statement.{statement}
 use Rattle.borrowed.proofs.parts.scan.Tie as tie
-use Rattle.borrowed.proofs.parts.scan.Reads as reads
-use Rattle.borrowed.proofs.parts.scan.Lts as lts
 
 abbrev Inv-loop : tie.InvT-loop
 Inv-loop area at code i₀ parts₀ len₀ i parts len =
@@ -18,87 +16,69 @@ Inv-loop area at code i₀ parts₀ len₀ i parts len =
 abbrev μ-loop : tie.MeasureT-loop
 μ-loop area at code i₀ parts₀ len₀ i parts len = length area - i
 
--- src/parts.rt:21:5
 loop-holds : tie.Need-loop-holds Inv-loop μ-loop
 loop-holds c = (omega arith, omega arith, grow-none _)
 
--- src/parts.rt:22:12
 shared-slice-read-if1 : tie.Need-shared-slice-read-if1 Inv-loop μ-loop
 shared-slice-read-if1 c = omega arith
 
--- src/parts.rt:23:13
 returns : tie.Need-returns Inv-loop μ-loop
 returns c =
     let l = c .before .before .before .loop in
     let a = c .before .before .before .before .args in
     grow-run (l .parts) (l .len) _ (further-other-at (a .area .now) (l .i) (a .code) (omega arith) (c .if1 .taken)) ∙ sym (l .inv .2)
 
--- src/parts.rt:25:12
 sub-if2 : tie.Need-sub-if2 Inv-loop μ-loop
 sub-if2 c = omega arith
 
--- src/parts.rt:26:13
 returns-2 : tie.Need-returns-2 Inv-loop μ-loop
 returns-2 c =
     let l = c .before .before .before .before .loop in
     let a = c .before .before .before .before .before .args in
     grow-cut (l .parts) (l .len) _ (further-no-length-at (a .area .now) (l .i) (a .code) (omega arith) (c .before .if1 .left) (c .if2 .taken)) ∙ sym (l .inv .2)
 
--- src/parts.rt:28:22
 add-n : tie.Need-add-n Inv-loop μ-loop
 add-n c = omega arith
 
--- src/parts.rt:28:17
 shared-slice-read-n : tie.Need-shared-slice-read-n Inv-loop μ-loop
 shared-slice-read-n c = omega arith
 
--- src/parts.rt:28:17
 cast-n : tie.Need-cast-n Inv-loop μ-loop
 cast-n c = omega (arith, c .shared-slice-known2 .given (c .before .before .before .before .before .loop .i + 1))
 
--- src/parts.rt:29:30
 add-if3 : tie.Need-add-if3 Inv-loop μ-loop
 add-if3 c = omega arith
 
--- src/parts.rt:29:16
 sub-if3 : tie.Need-sub-if3 Inv-loop μ-loop
 sub-if3 c = omega arith
 
--- src/parts.rt:30:13
 returns-3 : tie.Need-returns-3 Inv-loop μ-loop
 returns-3 c =
     let l = c .before .before .before .before .before .before .loop in
     let a = c .before .before .before .before .before .before .before .args in
     grow-cut (l .parts) (l .len) _ (further-no-value-at (a .area .now) (l .i) (a .code) (omega arith) (c .before .before .before .if1 .left) (c .if3 .taken)) ∙ sym (l .inv .2)
 
--- src/parts.rt:32:13
 add-i : tie.Need-add-i Inv-loop μ-loop
 add-i c = omega arith
 
--- src/parts.rt:32:13
 add-i-2 : tie.Need-add-i-2 Inv-loop μ-loop
 add-i-2 c = omega arith
 
--- src/parts.rt:33:9
 add-parts : tie.Need-add-parts Inv-loop μ-loop
 add-parts c = omega arith
 
--- src/parts.rt:34:9
 add-len : tie.Need-add-len Inv-loop μ-loop
 add-len c = omega arith
 
--- src/parts.rt:21:5
 loop-less : tie.Need-loop-less Inv-loop μ-loop
 loop-less c = omega arith
 
--- src/parts.rt:21:5
 loop-again : tie.Need-loop-again Inv-loop μ-loop
 loop-again c =
     let l = c .before .before .before .before .before .before .loop in
     let a = c .before .before .before .before .before .before .before .args in
     (omega arith, omega arith, l .inv .2 ∙ scan-turn (a .area .now) (l .i) (a .code) (l .parts) (l .len) (c .before .before .before .if1 .left) (omega arith))
 
--- src/parts.rt:14:1
 returns-4 : tie.Need-returns-4 Inv-loop μ-loop
 returns-4 c =
     let l = c .before .loop in
