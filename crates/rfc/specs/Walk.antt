@@ -1,5 +1,5 @@
--- One call of the walk over an area of options, from a place (RFC 2132, section 2; RFC 3396, of parts that are neighbours; document 01,
--- "Walking the area").
+-- One call of the walk over an area of options, from a place (RFC 2132, section 2; RFC 3396, section 7, of parts that are neighbours;
+-- document 01, "Walking the area").
 -- Assumes nothing.
 use Prim.Native.Nat.{ℕ, suc, zero, _+_, _*_}
 use mathlib.Core.List.{List, [], _∷_, _++_}
