@@ -37,10 +37,11 @@ add-t18 c = search needs
 
 returns-3 : tie.Need-returns-3
 returns-3 c =
-    let a = c .before .before .before .before .before .before .args in
+    let start = c .before .before .before .before .before .before in
+    let a = start .args in
     let in-area = c .before .before .before .if1 .left in
     stops (a .area .now) (a .join .now) CutLength (a .at + 1) _
-    (cut-length-at (a .area .now) (a .at) in-area (c .before .before .before .before .before .before .pre .other in-area) (c .before .if2 .left) (c .if3 .taken))
+    (cut-length-at (a .area .now) (a .at) in-area (start .pre .other in-area) (c .before .if2 .left) (c .if3 .taken))
 
 add-len : tie.Need-add-len
 add-len c = search needs
@@ -62,10 +63,12 @@ add-t22 c = search needs
 
 returns-4 : tie.Need-returns-4
 returns-4 c =
-    let a = c .before .before .before .before .before .before .before .before .args in
+    let start = c .before .before .before .before .before .before .before .before in
+    let a = start .args in
     let in-area = c .before .before .before .before .before .if1 .left in
+    let code = c .before .before .before .if2 .left in
     stops (a .area .now) (a .join .now) CutValue (a .at + 2) _
-    (cut-value-at (a .area .now) (a .at) in-area (c .before .before .before .before .before .before .before .before .pre .other in-area) (c .before .before .before .if2 .left) (omega arith) (c .if4 .taken))
+    (cut-value-at (a .area .now) (a .at) in-area (start .pre .other in-area) code (omega arith) (c .if4 .taken))
 
 add-next : tie.Need-add-next
 add-next c = search needs
@@ -94,24 +97,28 @@ finish-requires c κs =
 
 returns-5 : tie.Need-returns-5
 returns-5 c =
-    let a = c .before .before .before .before .before .before .before .before .before .before .before .args in
-    let in-area = c .before .before .before .before .before .before .before .before .if1 .left in
-    let n = getD (a .area .now) (a .at + 1) 0 in
-    stops (a .area .now) (a .join .now) CutContinuation (a .at + 2 + n) _
-    (whole-at (a .area .now) (a .at) in-area (c .before .before .before .before .before .before .before .before .before .before .before .pre .other in-area) (c .before .before .before .before .before .before .if2 .left) (omega arith)
-    ∙ joined-cut _ _ _ _ (cut-is _ (sym (c .enum-told .given .1) ∙ c .before .before .scan .ensures)))
+    let tested = c .before .before .before in
+    let start = tested .before .before .before .before .before .before .before .before in
+    let a = start .args in
+    let in-area = tested .before .before .before .before .before .if1 .left in
+    let code = tested .before .before .before .if2 .left in
+    let len = getD (a .area .now) (a .at + 1) 0 in
+    let none-whole = cut-is _ (sym (c .enum-told .given .1) ∙ c .before .before .scan .ensures) in
+    stops (a .area .now) (a .join .now) CutContinuation (a .at + 2 + len) _
+    (whole-at (a .area .now) (a .at) in-area (start .pre .other in-area) code (omega arith) ∙ joined-cut _ _ _ _ none-whole)
 
 same-length : tie.Need-same-length
 same-length c = search needs
 
 returns-6 : tie.Need-returns-6
 returns-6 c =
-    let a = c .before .before .before .before .before .before .before .before .before .before .before .before .before .before .before .before .args in
-    let in-area = c .before .before .before .before .before .before .before .before .before .before .before .before .before .if1 .left in
-    same-answer
-    (ap (roomFor (length (a .join .now)))
-    (whole-at (a .area .now) (a .at) in-area (c .before .before .before .before .before .before .before .before .before .before .before .before .before .before .before .before .pre .other in-area) (c .before .before .before .before .before .before .before .before .before .before .before .if2 .left) (omega arith)))
-    (c .before .before .finish .ensures)
+    let tested = c .before .before .before .before .before .before .before .before in
+    let start = tested .before .before .before .before .before .before .before .before in
+    let a = start .args in
+    let in-area = tested .before .before .before .before .before .if1 .left in
+    let code = tested .before .before .before .if2 .left in
+    let found = whole-at (a .area .now) (a .at) in-area (start .pre .other in-area) code (omega arith) in
+    same-answer (ap (roomFor (length (a .join .now))) found) (c .before .before .finish .ensures)
 
 pub read-spec : {M : Type 1} → statement M
 read-spec =

@@ -16,7 +16,8 @@ returns c =
 returns-2 : tie.Need-returns-2
 returns-2 c =
     let a = c .before .before .before .before .args in
-    refuses (a .area .now) (a .join .now) _ 4 (step-4 (a .area .now) (a .place) (length (a .join .now)) (c .before .if1 .left) (c .if2 .taken))
+    refuses (a .area .now) (a .join .now) _ 4
+    (step-4 (a .area .now) (a .place) (length (a .join .now)) (c .before .if1 .left) (c .if2 .taken))
 
 skip-pads-requires : tie.Need-skip-pads-requires
 skip-pads-requires c κs = search needs
@@ -31,11 +32,12 @@ same-length c = search needs
 
 returns-3 : tie.Need-returns-3
 returns-3 c =
-    let a = c .before .before .before .before .before .before .before .before .before .args in
+    let tested = c .before .before .before .before .before in
+    let a = tested .before .before .before .before .args in
     let room = length (a .join .now) in
-    same-answer
-    (step-walks (a .area .now) (a .place) room (c .before .before .before .before .before .before .if1 .left) (c .before .before .before .before .before .if2 .left) ∙ ap (roomFor room) (c .before .before .before .before .skip-pads .ensures .same))
-    (c .before .before .read .ensures)
+    let walks = step-walks (a .area .now) (a .place) room (tested .before .if1 .left) (tested .if2 .left) in
+    let skipped = c .before .before .before .before .skip-pads .ensures in
+    same-answer (walks ∙ ap (roomFor room) (skipped .same)) (c .before .before .read .ensures)
 
 pub step-spec : {M : Type 1} → statement M
 step-spec =

@@ -28,7 +28,8 @@ part-requires-3 c κs = search needs
 returns-3 : tie.Need-returns-3
 returns-3 c =
     let a = c .before .before .before .before .before .args in
-    c .part3 .ensures ∙ sym (shown-one (a .parts) (a .len) (a .place) (a .area .now) (a .join .now) (c .before .before .if1 .left) (c .before .if2 .left))
+    let one = shown-one (a .parts) (a .len) (a .place) (a .area .now) (a .join .now) (c .before .before .if1 .left) (c .before .if2 .left) in
+    c .part3 .ensures ∙ sym one
 
 pub value-spec : {M : Type 1} → statement M
 value-spec =

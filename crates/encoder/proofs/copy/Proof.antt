@@ -36,9 +36,11 @@ loop-less c = omega arith
 loop-again : tie.Need-loop-again Inv-loop μ-loop
 loop-again c =
     let l = c .before .before .loop in
-    let a = c .before .before .before .args in (
+    let a = c .before .before .before .args in
+    let byte = getD (a .from .now) (l .i) 0 in
+    let turn = copy-turn (a .to .now) (a .place) (a .from .now) (l .i) (omega arith) (omega arith) in (
       omega arith,
-      ap (λ (x : List ℕ). set x (a .place + l .i) (getD (a .from .now) (l .i) 0)) (l .inv .1) ∙ copy-turn (a .to .now) (a .place) (a .from .now) (l .i) (omega arith) (omega arith),
+      ap (λ (x : List ℕ). set x (a .place + l .i) byte) (l .inv .1) ∙ turn,
       length-set (l .to) (a .place + l .i) _ ∙ l .inv .2,
     )
 
@@ -50,7 +52,9 @@ returns c =
     let l = c .before .loop in
     let a = c .before .before .args in
     let e : l .i ≡ length (a .from .now) = omega arith in
-    l .inv .1 ∙ ap (λ (k : ℕ). over (a .to .now) (a .place) (take k (a .from .now))) e ∙ ap (over (a .to .now) (a .place)) (take-length (a .from .now))
+    l .inv .1
+    ∙ ap (λ (k : ℕ). over (a .to .now) (a .place) (take k (a .from .now))) e
+    ∙ ap (over (a .to .now) (a .place)) (take-length (a .from .now))
 
 pub copy-spec : {M : Type 1} → statement M
 copy-spec =

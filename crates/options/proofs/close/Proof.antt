@@ -21,7 +21,8 @@ returns-2 c =
 returns-3 : tie.Need-returns-3
 returns-3 c =
     let a = c .before .before .before .args in
-    refuses _ (a .room .now) (a .place) 8 (close-8 (a .room .now) (a .place) (c .before .before .if1 .left) (c .before .if2 .left) (omega arith))
+    refuses _ (a .room .now) (a .place) 8
+    (close-8 (a .room .now) (a .place) (c .before .before .if1 .left) (c .before .if2 .left) (omega arith))
 
 add-to : tie.Need-add-to
 add-to c = search needs

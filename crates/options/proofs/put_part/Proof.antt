@@ -48,12 +48,13 @@ returns : tie.Need-returns
 returns c =
     let a = c .before .before .before .before .before .before .before .args in
     let v : List ℕ = a .value .now in
+    let rest : List ℕ = drop (a .from) v in
     let stored : List ℕ = set (set (a .room .now) (a .at) (a .code)) (a .at + 1) (a .n) in
     let n : a .from + a .n - a .from ≡ a .n = omega arith in
-    let l : length (take (a .n) (drop (a .from) v)) ≡ a .n = length-take-le (a .n) (drop (a .from) v) (omega (arith, length-drop (a .from) v)) in
+    let l : length (take (a .n) rest) ≡ a .n = length-take-le (a .n) rest (omega (arith, length-drop (a .from) v)) in
     let s : length stored ≡ length (a .room .now) = simp length-set in
-    put-over (take (a .from + a .n - a .from) (drop (a .from) v)) stored _ (a .at + 2) _ (rw n (omega arith)) (c .before .before .write-slice .ensures)
-    ∙ ap (λ (k : ℕ). over stored (a .at + 2) (take k (drop (a .from) v))) n
+    put-over (take (a .from + a .n - a .from) rest) stored _ (a .at + 2) _ (rw n (omega arith)) (c .before .before .write-slice .ensures)
+    ∙ ap (λ (k : ℕ). over stored (a .at + 2) (take k rest)) n
     ∙ part-over (a .room .now) v (a .at) (a .code) (a .from) (a .n) (omega arith)
 
 pub put-part-spec : {M : Type 1} → statement M

@@ -14,13 +14,20 @@ Inv-loop room₀ place code value done₀ from₀ room done from = Sofar room₀
 abbrev μ-loop : tie.MeasureT-loop
 μ-loop room₀ place code value done₀ from₀ room done from = length value - from
 
+-- the arguments, in a turn of the loop
+abbrev begun : tie.After-next-piece Inv-loop μ-loop → tie.Start Inv-loop μ-loop
+begun c = c .before .before .before .before .before
+
 -- the next part is among the bytes that are to be written
 fits : (c : tie.After-next-piece Inv-loop μ-loop)
-    → c .before .before .loop .done + (2 + c .next-piece .result) ≤ length (encode mostPart (c .before .before .before .before .before .args .code) (c .before .before .before .before .before .args .value .now))
+    → c .before .before .loop .done + (2 + c .next-piece .result)
+    ≤ length (encode mostPart (begun c .args .code) (begun c .args .value .now))
 fits c =
-    let a = c .before .before .before .before .before .args in
+    let a = begun c .args in
     let l = c .before .before .loop in
-    part-fits (a .room .now) (l .room) (a .value .now) (a .place) (a .code) (l .done) (l .from) (c .next-piece .result) (l .inv) (c .before .loop-test .taken) (c .next-piece .ensures)
+    let n = c .next-piece in
+    part-fits (a .room .now) (l .room) (a .value .now) (a .place) (a .code) (l .done) (l .from) (n .result) (l .inv)
+    (c .before .loop-test .taken) (n .ensures)
 
 loop-holds : tie.Need-loop-holds Inv-loop μ-loop
 loop-holds c = sofar-none _ _ _ _
@@ -51,10 +58,13 @@ loop-less c = omega (arith, fits (c .before .before .before .before))
 
 loop-again : tie.Need-loop-again Inv-loop μ-loop
 loop-again c =
-    let a = c .before .before .before .before .before .before .before .before .before .args in
-    let l = c .before .before .before .before .before .before .loop in
-    sofar-more (a .room .now) (l .room) (a .value .now) (a .place) (a .code) (l .done) (l .from) (c .before .before .before .before .next-piece .result) (l .inv) (c .before .before .before .before .before .loop-test .taken) (c .before .before .before .before .next-piece .ensures)
-    (c .before .before .put-part .last .0) (omega arith) (c .before .before .put-part .kept .0) (c .before .before .put-part .ensures)
+    let turn = c .before .before .before .before in
+    let a = begun turn .args in
+    let l = turn .before .before .loop in
+    let n = turn .next-piece in
+    let wrote = c .before .before .put-part in
+    sofar-more (a .room .now) (l .room) (a .value .now) (a .place) (a .code) (l .done) (l .from) (n .result) (l .inv)
+    (turn .before .loop-test .taken) (n .ensures) (wrote .last .0) (omega arith) (wrote .kept .0) (wrote .ensures)
 
 same-length : tie.Need-same-length Inv-loop μ-loop
 same-length c = c .before .loop .inv .keeps

@@ -20,26 +20,36 @@ returns c =
 returns-2 : tie.Need-returns-2
 returns-2 c =
     let a = c .before .before .before .before .args in
+    let short = c .before .if1 .left in
     refuses _ (a .room .now) (a .place) 4
-    (bytes-4 (a .code) (a .value .now) (a .room .now) (a .place) (c .before .if1 .left) (c .if2 .taken))
+    (bytes-4 (a .code) (a .value .now) (a .room .now) (a .place) short (c .if2 .taken))
 
 returns-3 : tie.Need-returns-3
 returns-3 c =
     let a = c .before .before .before .before .before .args in
+    let short = c .before .before .if1 .left in
+    let within = c .before .if2 .left in
     refuses _ (a .room .now) (a .place) 6
-    (bytes-pad (a .code) (a .value .now) (a .room .now) (a .place) (c .before .before .if1 .left) (c .before .if2 .left) (c .if3 .taken))
+    (bytes-pad (a .code) (a .value .now) (a .room .now) (a .place) short within (c .if3 .taken))
 
 returns-4 : tie.Need-returns-4
 returns-4 c =
     let a = c .before .before .before .before .before .before .args in
+    let short = c .before .before .before .if1 .left in
+    let within = c .before .before .if2 .left in
+    let pad = c .before .if3 .left in
     refuses _ (a .room .now) (a .place) 6
-    (bytes-end (a .code) (a .value .now) (a .room .now) (a .place) (c .before .before .before .if1 .left) (c .before .before .if2 .left) (c .before .if3 .left) (c .if4 .taken))
+    (bytes-end (a .code) (a .value .now) (a .room .now) (a .place) short within pad (c .if4 .taken))
 
 returns-5 : tie.Need-returns-5
 returns-5 c =
     let a = c .before .before .before .before .before .before .before .args in
+    let short = c .before .before .before .before .if1 .left in
+    let within = c .before .before .before .if2 .left in
+    let pad = c .before .before .if3 .left in
+    let end = c .before .if4 .left in
     refuses _ (a .room .now) (a .place) 7
-    (bytes-7 (a .code) (a .value .now) (a .room .now) (a .place) (c .before .before .before .before .if1 .left) (c .before .before .before .if2 .left) (c .before .before .if3 .left) (c .before .if4 .left) (c .if5 .taken))
+    (bytes-7 (a .code) (a .value .now) (a .room .now) (a .place) short within pad end (c .if5 .taken))
 
 sub-size : tie.Need-sub-size
 sub-size c = search needs
@@ -59,8 +69,13 @@ sub-if6 c = search needs
 returns-6 : tie.Need-returns-6
 returns-6 c =
     let a = c .before .before .before .before .before .before .before .before .args in
+    let short = c .before .before .before .before .before .if1 .left in
+    let within = c .before .before .before .before .if2 .left in
+    let pad = c .before .before .before .if3 .left in
+    let end = c .before .before .if4 .left in
+    let little = c .before .if5 .left in
     refuses _ (a .room .now) (a .place) 8
-    (bytes-8 (a .code) (a .value .now) (a .room .now) (a .place) (c .before .before .before .before .before .if1 .left) (c .before .before .before .before .if2 .left) (c .before .before .before .if3 .left) (c .before .before .if4 .left) (c .before .if5 .left) (omega (arith, length-encode mostPart (lit< tt) (a .code) (a .value .now))))
+    (bytes-8 (a .code) (a .value .now) (a .room .now) (a .place) short within pad end little (omega (arith, length-encode mostPart (lit< tt) (a .code) (a .value .now))))
 
 add-to : tie.Need-add-to
 add-to c = search needs
@@ -75,17 +90,18 @@ same-length c = search needs
 
 returns-7 : tie.Need-returns-7
 returns-7 c =
-    let a = c .before .before .before .before .before .before .before .before .before .before .before .before .args in
+    let tested = c .before .before .before .before in
+    let a = tested .before .before .before .before .before .before .before .before .args in
     let v = a .value .now in
-    let size = sym (length-encode mostPart (lit< tt) (a .code) v) in
-    let short = c .before .before .before .before .before .before .before .before .before .if1 .left in
-    let within = c .before .before .before .before .before .before .before .before .if2 .left in
-    let pad = c .before .before .before .before .before .before .before .if3 .left in
-    let end = c .before .before .before .before .before .before .if4 .left in
-    let little = c .before .before .before .before .before .if5 .left in
+    let size = length-encode mostPart (lit< tt) (a .code) v in
+    let short = tested .before .before .before .before .before .if1 .left in
+    let within = tested .before .before .before .before .if2 .left in
+    let pad = tested .before .before .before .if3 .left in
+    let end = tested .before .before .if4 .left in
+    let little = tested .before .if5 .left in
     let fits : a .place + length (encode mostPart (a .code) v) ≤ length (a .room .now) = omega arith in
     writes _ (a .room .now) (a .place) _ _
-    (bytes-given (a .code) v (a .room .now) (a .place) short within pad end little fits ∙ ap (λ (n : ℕ). given (a .place + n)) (sym size))
+    (bytes-given (a .code) v (a .room .now) (a .place) short within pad end little fits ∙ ap (λ (n : ℕ). given (a .place + n)) size)
     (bytes-left (a .code) v (a .room .now) (a .place) short within pad end little fits ∙ sym (c .before .before .put-parts .ensures))
 
 pub write-bytes-spec : {M : Type 1} → statement M

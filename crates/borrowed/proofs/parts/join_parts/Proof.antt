@@ -16,21 +16,29 @@ Inv-loop area at code parts join₀ i₀ to₀ k₀ join i to k = Joined area at
 abbrev μ-loop : tie.MeasureT-loop
 μ-loop area at code parts join₀ i₀ to₀ k₀ join i to k = parts - k
 
--- in a turn the part at i lies in the area, and its value fits behind what is joined
-within : (c : tie.In-loop Inv-loop μ-loop)
-    → c .before .loop .i + 2 + getD (c .before .before .before .before .args .area .now) (c .before .loop .i + 1) 0 ≤ length (c .before .before .before .before .args .area .now)
+-- the arguments, in a turn of the loop
+abbrev begun : tie.In-loop Inv-loop μ-loop → tie.Start Inv-loop μ-loop
+begun c = c .before .before .before .before
+
+-- how many bytes the part at i has
+abbrev n : tie.In-loop Inv-loop μ-loop → ℕ
+n c = getD (begun c .args .area .now) (c .before .loop .i + 1) 0
+
+-- the part at i lies in the area, and its value fits behind what is joined
+within : (c : tie.In-loop Inv-loop μ-loop) → c .before .loop .i + 2 + n c ≤ length (begun c .args .area .now)
 within c =
-    let a = c .before .before .before .before .args in
+    let a = begun c .args in
     let l = c .before .loop in
     part-within (a .area .now) (a .at) (a .code) (a .parts) (a .join .now) (l .join) (l .i) (l .to) (l .k) (l .inv) (c .loop-test .taken)
 
-fits : (c : tie.In-loop Inv-loop μ-loop)
-    → c .before .loop .to + getD (c .before .before .before .before .args .area .now) (c .before .loop .i + 1) 0 ≤ length (c .before .before .before .before .args .join .now)
+fits : (c : tie.In-loop Inv-loop μ-loop) → c .before .loop .to + n c ≤ length (begun c .args .join .now)
 fits c =
-    let a = c .before .before .before .before .args in
+    let a = begun c .args in
     let l = c .before .loop in
-    let all-fit = c .before .before .before .before .pre .fits in
-    omega (arith, value-fits (a .area .now) (a .at) (a .code) (a .parts) (a .join .now) (l .join) (l .i) (l .to) (l .k) (l .inv) (c .loop-test .taken))
+    let all-fit = begun c .pre .fits in
+    let here =
+    value-fits (a .area .now) (a .at) (a .code) (a .parts) (a .join .now) (l .join) (l .i) (l .to) (l .k) (l .inv) (c .loop-test .taken) in
+    omega arith
 
 loop-holds : tie.Need-loop-holds Inv-loop μ-loop
 loop-holds c = joined-none _ _ _ _ _ (c .before .before .pre)
@@ -82,16 +90,21 @@ loop-less c = omega arith
 
 loop-again : tie.Need-loop-again Inv-loop μ-loop
 loop-again c =
-    let a = c .before .before .before .before .before .before .before .before .before .before .args in
-    let l = c .before .before .before .before .before .before .before .loop in
+    let turn = c .before .before .before .before .before .before in
+    let start = begun turn in
+    let a = start .args in
+    let l = turn .before .loop in
+    let wrote = c .before .before .write-slice in
     let area : List ℕ = a .area .now in
-    let n : ℕ = getD area (l .i + 1) 0 in
-    let e : l .i + 2 + n - (l .i + 2) ≡ n = omega (arith, within (c .before .before .before .before .before .before)) in
-    let there : l .to + length (take (l .i + 2 + n - (l .i + 2)) (drop (l .i + 2) area)) ≤ length (l .join) =
-    omega (arith, length-take (l .i + 2 + n - (l .i + 2)) (drop (l .i + 2) area), fits (c .before .before .before .before .before .before), l .inv .keeps) in
-    joined-more area (a .at) (a .code) (a .parts) (a .join .now) (l .join) (l .i) (l .to) (l .k) (l .inv) (c .before .before .write-slice .last .0) (c .before .before .before .before .before .before .loop-test .taken) (c .before .before .before .before .before .before .before .before .before .before .pre .fits) (c .before .before .write-slice .kept .0)
-    (put-over (take (l .i + 2 + n - (l .i + 2)) (drop (l .i + 2) area)) (l .join) _ (l .to) _ there (c .before .before .write-slice .ensures)
-    ∙ ap (λ (m : ℕ). over (l .join) (l .to) (take m (drop (l .i + 2) area))) e)
+    let from : ℕ = l .i + 2 in
+    let part : List ℕ = take (from + n turn - from) (drop from area) in
+    let e : from + n turn - from ≡ n turn = omega (arith, within turn) in
+    let there : l .to + length part ≤ length (l .join) =
+    omega (arith, length-take (from + n turn - from) (drop from area), fits turn, l .inv .keeps) in
+    let joined : wrote .last .0 ≡ over (l .join) (l .to) (take (n turn) (drop from area)) =
+    put-over part (l .join) _ (l .to) _ there (wrote .ensures) ∙ ap (λ (m : ℕ). over (l .join) (l .to) (take m (drop from area))) e in
+    joined-more area (a .at) (a .code) (a .parts) (a .join .now) (l .join) (l .i) (l .to) (l .k) (l .inv)
+    (wrote .last .0) (turn .loop-test .taken) (start .pre .fits) (wrote .kept .0) joined
 
 same-length : tie.Need-same-length Inv-loop μ-loop
 same-length c = c .before .loop .inv .keeps
@@ -100,7 +113,8 @@ returns : tie.Need-returns Inv-loop μ-loop
 returns c =
     let a = c .before .before .before .before .args in
     let l = c .before .loop in
-    joined-all (a .area .now) (a .at) (a .code) (a .parts) (a .join .now) (l .join) (l .i) (l .to) (l .k) (l .inv) (c .loop-test .left)
+    joined-all (a .area .now) (a .at) (a .code) (a .parts) (a .join .now) (l .join) (l .i) (l .to) (l .k) (l .inv)
+    (c .loop-test .left)
 
 pub join-parts-spec : {M : Type 1} → statement M
 join-parts-spec =

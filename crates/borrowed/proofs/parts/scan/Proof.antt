@@ -11,7 +11,9 @@ use Rattle.borrowed.proofs.parts.scan.Tie as tie
 
 abbrev Inv-loop : tie.InvT-loop
 Inv-loop area at code i₀ parts₀ len₀ i parts len =
-    (i ≤ length area) × (i ≡ at + (2 * parts + len)) × (sizeOf (further code (drop at area)) ≡ grow parts len (sizeOf (further code (drop i area))))
+    (i ≤ length area)
+    × (i ≡ at + (2 * parts + len))
+    × (sizeOf (further code (drop at area)) ≡ grow parts len (sizeOf (further code (drop i area))))
 
 abbrev μ-loop : tie.MeasureT-loop
 μ-loop area at code i₀ parts₀ len₀ i parts len = length area - i
@@ -35,7 +37,8 @@ returns-2 : tie.Need-returns-2 Inv-loop μ-loop
 returns-2 c =
     let l = c .before .before .before .before .loop in
     let a = c .before .before .before .before .before .args in
-    grow-cut (l .parts) (l .len) _ (further-no-length-at (a .area .now) (l .i) (a .code) (omega arith) (c .before .if1 .left) (c .if2 .taken)) ∙ sym (l .inv .2)
+    let cut = further-no-length-at (a .area .now) (l .i) (a .code) (omega arith) (c .before .if1 .left) (c .if2 .taken) in
+    grow-cut (l .parts) (l .len) _ cut ∙ sym (l .inv .2)
 
 add-n : tie.Need-add-n Inv-loop μ-loop
 add-n c = omega arith
@@ -56,7 +59,8 @@ returns-3 : tie.Need-returns-3 Inv-loop μ-loop
 returns-3 c =
     let l = c .before .before .before .before .before .before .loop in
     let a = c .before .before .before .before .before .before .before .args in
-    grow-cut (l .parts) (l .len) _ (further-no-value-at (a .area .now) (l .i) (a .code) (omega arith) (c .before .before .before .if1 .left) (c .if3 .taken)) ∙ sym (l .inv .2)
+    let cut = further-no-value-at (a .area .now) (l .i) (a .code) (omega arith) (c .before .before .before .if1 .left) (c .if3 .taken) in
+    grow-cut (l .parts) (l .len) _ cut ∙ sym (l .inv .2)
 
 add-i : tie.Need-add-i Inv-loop μ-loop
 add-i c = omega arith
@@ -77,7 +81,8 @@ loop-again : tie.Need-loop-again Inv-loop μ-loop
 loop-again c =
     let l = c .before .before .before .before .before .before .loop in
     let a = c .before .before .before .before .before .before .before .args in
-    (omega arith, omega arith, l .inv .2 ∙ scan-turn (a .area .now) (l .i) (a .code) (l .parts) (l .len) (c .before .before .before .if1 .left) (omega arith))
+    let turn = scan-turn (a .area .now) (l .i) (a .code) (l .parts) (l .len) (c .before .before .before .if1 .left) (omega arith) in
+    (omega arith, omega arith, l .inv .2 ∙ turn)
 
 returns-4 : tie.Need-returns-4 Inv-loop μ-loop
 returns-4 c =
