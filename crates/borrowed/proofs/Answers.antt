@@ -65,7 +65,8 @@ stops area join s at f e =
     stopped area join _ s at (ap (roomFor (length join)) e ∙ stop-answered (length join) join (stopOf s) at)
 
 -- the same answer by another name
-pub same-answer : {area join join′ : List ℕ} {s : Step} {a b : Answer rfc.Found} → a ≡ b → Walked area join join′ s b → Walked area join join′ s a
+pub same-answer : {area join join′ : List ℕ} {s : Step} {a b : Answer rfc.Found} → a ≡ b
+    → Walked area join join′ s b → Walked area join join′ s a
 same-answer {area} {join} {join′} {s} e w = subst (λ (x : Answer rfc.Found). Walked area join join′ s x) (sym e) w
 
 -- an option whose parts are all whole
@@ -134,7 +135,8 @@ module _ (area join : List ℕ) (at code parts len more : ℕ) (h : Parted area 
       let a : parts + 1 ≡ 1 = omega arith in
       let b : place - len ≡ at + 2 = omega (arith, vs-length, ap length none) in
       finds-one area join says-parts code v 1 len place
-      (ap (roomFor (length join)) (found ∙ (λ i. option code (v ++ none i) (a i) place) ∙ ap (λ (l : List ℕ). option code l 1 place) (append-nil v))
+      (ap (roomFor (length join))
+      (found ∙ (λ i. option code (v ++ none i) (a i) place) ∙ ap (λ (l : List ℕ). option code l 1 place) (append-nil v))
       ∙ one-answered (length join) join code v 1 place (omega arith))
       (omega arith) (omega arith) fits (ap (λ (k : ℕ). take len (drop k area)) b)
 

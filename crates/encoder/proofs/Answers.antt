@@ -19,7 +19,8 @@ module _ (w : Write) (room : List ℕ) (place : ℕ) where
   refuses k e = record { told = sym e; left = sym (refused-left w room place k e) }
 
   -- a success leaves what the definition says
-  pub writes : (room′ : List ℕ) (to : ℕ) → answerTo w room place ≡ given to → roomAfter w room place ≡ room′ → Wrote w room room′ place (To to)
+  pub writes : (room′ : List ℕ) (to : ℕ) → answerTo w room place ≡ given to → roomAfter w room place ≡ room′
+      → Wrote w room room′ place (To to)
   writes room′ to e l = record { told = sym e; left = sym l }
 
 -- back from what is said to who said it
@@ -30,7 +31,8 @@ says-one (Refused a) (To b) e = cc
 says-one (Refused a) (Refused b) e = cc
 
 -- any two answers, and any two rooms left, are equal
-pub wrote-one : {w : Write} {room r₁ r₂ : List ℕ} {place : ℕ} {a b : Written} → Wrote w room r₁ place a → Wrote w room r₂ place b → (a ≡ b) × (r₁ ≡ r₂)
+pub wrote-one : {w : Write} {room r₁ r₂ : List ℕ} {place : ℕ} {a b : Written}
+    → Wrote w room r₁ place a → Wrote w room r₂ place b → (a ≡ b) × (r₁ ≡ r₂)
 wrote-one {a = a} {b = b} p q = (says-one a b (p .told ∙ sym (q .told)), p .left ∙ sym (q .left))
 
 -- bytes that fit are put over what stood there

@@ -11,7 +11,8 @@ use borrow.Author.Tests.{le-leb, lt-leb, leb-true, ltb-true}
 use lib.Dec.{leb, ltb}
 use Rattle.facts.specs.Ranges.{Row, row, lookup, within}
 
--- the one answer from low to high, or none where the rows part them. The rows that are left stand once: twice, antt's work doubles with each row
+-- the one answer from low to high, or none where the rows part them. (The rows that are left are named once: named twice, the work of
+-- computing this would double with each row.)
 abbrev pub uniform : {A : Type 0} → A → List (Row A) → ℕ → ℕ → Option A
 uniform other [] low high = some other
 uniform other (row l h answer ∷ rows) low high =

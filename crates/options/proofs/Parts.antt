@@ -70,7 +70,10 @@ pub sofar-none : (room v : List ℕ) (place code : ℕ) → Sofar room room v pl
 sofar-none room v place code =
     record { within = omega arith; some = omega arith; keeps = refl; put = sym (over-nil room place); left = refl }
 
-module _ (room₀ room v : List ℕ) (place code done from n : ℕ) (s : Sofar room₀ room v place code done from) (h : from < length v) (e : n ≡ min mostPart (length v - from)) where
+-- one part more, of n bytes
+module _
+    (room₀ room v : List ℕ) (place code done from n : ℕ)
+    (s : Sofar room₀ room v place code done from) (h : from < length v) (e : n ≡ min mostPart (length v - from)) where
   part-length : length (part code v from n) ≡ 2 + n
   part-length = let l = length-take-le n (drop from v) (omega (arith, length-drop from v)) in omega arith
 
@@ -101,10 +104,14 @@ module _ (room₀ room v : List ℕ) (place code done from n : ℕ) (s : Sofar r
         keeps = k ∙ s .keeps;
         put =
             w ∙ ap (λ (x : List ℕ). over x (place + done) p) (s .put)
-            ∙ over-next room₀ place all p done (omega (arith, part-fits)) (s .some) (ap (take (length p)) split ∙ take-at p _ (length p) refl)
+            ∙ over-next room₀ place all p done (omega (arith, part-fits)) (s .some)
+            (ap (take (length p)) split ∙ take-at p _ (length p) refl)
             ∙ ap (λ (m : ℕ). over room₀ place (take m all)) a;
         left =
-            ap (λ (m : ℕ). drop m all) (sym a) ∙ sym (drop-drop (length p) done all) ∙ ap (drop (length p)) split ∙ drop-at p _ (length p) refl;
+            ap (λ (m : ℕ). drop m all) (sym a)
+            ∙ sym (drop-drop (length p) done all)
+            ∙ ap (drop (length p)) split
+            ∙ drop-at p _ (length p) refl;
       }
 
 -- at the end

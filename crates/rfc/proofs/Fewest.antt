@@ -50,7 +50,8 @@ fair-sooner : (at p : ℕ) (f : Found) → at ≤ p → Fair p f → Fair at f
 fair-sooner at p (stop s q) h g = λ e. let k = g e in omega arith
 fair-sooner at p (option code v n q) h g = omega arith
 
-fair-joined : (code : ℕ) (v : List ℕ) (at p : ℕ) (r : Run) → at + 2 + length v ≤ p → length v ≤ 255 → Small r → Fair at (joined code v p r)
+fair-joined : (code : ℕ) (v : List ℕ) (at p : ℕ) (r : Run) → at + 2 + length v ≤ p → length v ≤ 255 → Small r
+    → Fair at (joined code v p r)
 unfolding joined
 fair-joined code v at p cut g h s = λ e. let z : _≡_ {A = ℕ} 0 1 = cc in omega arith
 fair-joined code v at p (run n vs) g h s = omega (arith, length-append v vs)
@@ -60,9 +61,11 @@ unfolding behind further
 fair-behind at code [] h = λ e. let z : _≡_ {A = ℕ} 0 1 = cc in omega arith
 fair-behind at code (n ∷ rest) h = go (leb n (length rest))
   where
-    go : (t : Bool) → Fair at (cond t (joined code (take n rest) (at + 1 + 1 + n) (further code (drop n rest))) (stop cutValue (at + 1 + 1)))
+    go : (t : Bool)
+        → Fair at (cond t (joined code (take n rest) (at + 1 + 1 + n) (further code (drop n rest))) (stop cutValue (at + 1 + 1)))
     go true =
-        fair-joined code (take n rest) at (at + 1 + 1 + n) (further code (drop n rest)) (omega (arith, length-take n rest)) (omega (arith, h .0, length-take n rest))
+        fair-joined code (take n rest) at (at + 1 + 1 + n) (further code (drop n rest))
+        (omega (arith, length-take n rest)) (omega (arith, h .0, length-take n rest))
         (small-in (length (drop n rest)) code (drop n rest) (bytes-drop n rest (h .1)))
     go false = λ e. omega arith
 
@@ -71,7 +74,8 @@ unfolding walk
 fair at [] h = λ e. let z : _≡_ {A = ℕ} 0 1 = cc in omega arith
 fair at (b ∷ rest) h = go (eqb b padCode) (eqb b endCode) (fair (at + 1) rest (h .1))
   where
-    go : (t u : Bool) → Fair (at + 1) (walk (at + 1) rest) → Fair at (cond t (walk (at + 1) rest) (cond u (stop end (at + 1)) (behind b (at + 1) rest)))
+    go : (t u : Bool) → Fair (at + 1) (walk (at + 1) rest)
+        → Fair at (cond t (walk (at + 1) rest) (cond u (stop end (at + 1)) (behind b (at + 1) rest)))
     go true u ih = fair-sooner at (at + 1) (walk (at + 1) rest) (omega arith) ih
     go false true ih = λ e. omega arith
     go false false ih = fair-behind at b rest (h .1)
@@ -106,7 +110,8 @@ abbrev Ends : Listing → List Opt → ℕ → Type 0
 Ends l os e = (l .options ≡ os) × (l .ending ≡ given (stop end e))
 
 -- a call that ends the listing, at an End
-last-fewest : (place e : ℕ) (os : List Opt) (a : Answer Found) → FairCall place a → [] ≡ os → a ≡ given (stop end e) → place + length (encodeAll os) ≤ e
+last-fewest : (place e : ℕ) (os : List Opt) (a : Answer Found) → FairCall place a → [] ≡ os → a ≡ given (stop end e)
+    → place + length (encodeAll os) ≤ e
 unfolding encodeAll
 last-fewest place e os (given (stop s p)) g h k =
     let se : s ≡ end = cc in
@@ -140,7 +145,8 @@ fewest-in : (area : List ℕ) (room e : ℕ) → Bytes area → (k place : ℕ) 
 unfolding listIn
 fewest-in area room e b zero place os h = last-fewest place e os (step area place room) (fair-step area place room b) (h .0) (h .1)
 fewest-in area room e b (suc k) place os h =
-    onward-fewest place e os (step area place room) (listIn k area room) (λ p ps. fewest-in area room e b k p ps) (fair-step area place room b) h
+    onward-fewest place e os (step area place room) (listIn k area room) (λ p ps. fewest-in area room e b k p ps)
+    (fair-step area place room b) h
 
 -- whatever bytes list these options and then stop at an End reach it behind as many bytes as the writer makes, or more
 pub fewest : (area : List ℕ) (room e : ℕ) (os : List Opt) → Bytes area

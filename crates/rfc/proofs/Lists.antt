@@ -70,15 +70,20 @@ next-other code (o ∷ os) rest h d v =
     ∙ further-other code (o .code) _ d
 
 module _ (area rest : List ℕ) (room : ℕ) (short : length area ≤ mostBytes) (joins : mostValue ≤ room) where
+  -- the call at the list's End
+  at-end : (pre : List ℕ) → area ≡ pre ++ endCode ∷ rest → step area (length pre) room ≡ given (stop end (length pre + 1))
+  at-end pre e =
+      step-behind area pre (endCode ∷ rest) room e short
+      ∙ ap (roomFor room) (walk-end (length pre) endCode rest refl)
+      ∙ stop-answered room [] end (length pre + 1)
+
   list-in : (os : List Opt) (pre : List ℕ) (k : ℕ) → Valid os → length os ≤ k → area ≡ pre ++ (encodeAll os ++ rest)
       → listIn k area room (length pre) ≡ record { options = os; ending = given (stop end (length pre + length (encodeAll os))) }
   unfolding encodeAll listIn onward
   list-in [] pre zero v h e =
-      let w = step-behind area pre (endCode ∷ rest) room e short ∙ ap (roomFor room) (walk-end (length pre) endCode rest refl) ∙ stop-answered room [] end _ in
-      λ i. record { options = []; ending = w i }
+      λ i. record { options = []; ending = at-end pre e i }
   list-in [] pre (suc k) v h e =
-      let w = step-behind area pre (endCode ∷ rest) room e short ∙ ap (roomFor room) (walk-end (length pre) endCode rest refl) ∙ stop-answered room [] end _ in
-      ap (λ (a : Answer Found). onward a (listIn k area room)) w
+      ap (λ (a : Answer Found). onward a (listIn k area room)) (at-end pre e)
   list-in (o ∷ os) pre zero v h e = absurd (not-suc-le-zero h)
   list-in (o ∷ os) pre (suc k) v h e =
       let code : ℕ = o .code in

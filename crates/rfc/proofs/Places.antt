@@ -55,10 +55,12 @@ module _ (area : List ℕ) (i : ℕ) where
         ≡ joined (getD area i 0) (take (getD area (i + 1) 0) (drop (i + 2) area)) (i + 2 + getD area (i + 1) 0)
         (further (getD area i 0) (drop (i + 2 + getD area (i + 1) 0) area))
     whole-at g =
+        let code : ℕ = getD area i 0 in
+        let n : ℕ = getD area (i + 1) 0 in
+        let v : List ℕ = take n (drop (i + 2) area) in
         ap (walk i) (drop-two (omega arith)) ∙ walk-code i _ _ z e ∙ behind-whole _ _ _ _ (omega (arith, rest-length))
-        ∙ ap (λ (l : List ℕ). joined (getD area i 0) (take (getD area (i + 1) 0) (drop (i + 2) area)) (i + 1 + 1 + getD area (i + 1) 0) (further (getD area i 0) l))
-        (drop-drop (getD area (i + 1) 0) (i + 2) area)
-        ∙ ap (λ (k : ℕ). joined (getD area i 0) (take (getD area (i + 1) 0) (drop (i + 2) area)) (k + getD area (i + 1) 0) (further (getD area i 0) (drop (i + 2 + getD area (i + 1) 0) area))) two
+        ∙ ap (λ (l : List ℕ). joined code v (i + 1 + 1 + n) (further code l)) (drop-drop n (i + 2) area)
+        ∙ ap (λ (k : ℕ). joined code v (k + n) (further code (drop (i + 2 + n) area))) two
 
   -- the further parts
   module _ (code : ℕ) where
@@ -71,15 +73,17 @@ module _ (area : List ℕ) (i : ℕ) where
     pub further-no-length-at : i < length area → getD area i 0 ≡ code → length area - i < 2 → further code (drop i area) ≡ cut
     further-no-length-at h e g = ap (further code) (drop-last h g) ∙ further-no-length code _ e
 
-    pub further-no-value-at : i + 2 ≤ length area → getD area i 0 ≡ code → length area - (i + 2) < getD area (i + 1) 0 → further code (drop i area) ≡ cut
+    pub further-no-value-at : i + 2 ≤ length area → getD area i 0 ≡ code → length area - (i + 2) < getD area (i + 1) 0
+        → further code (drop i area) ≡ cut
     further-no-value-at g e k = ap (further code) (drop-two g) ∙ further-no-value code _ _ _ e (omega (arith, rest-length))
 
     pub further-more-at : getD area i 0 ≡ code → i + 2 + getD area (i + 1) 0 ≤ length area
         → further code (drop i area)
         ≡ extend (take (getD area (i + 1) 0) (drop (i + 2) area)) (further code (drop (i + 2 + getD area (i + 1) 0) area))
     further-more-at e g =
+        let n : ℕ = getD area (i + 1) 0 in
         ap (further code) (drop-two (omega arith)) ∙ further-more code _ _ _ e (omega (arith, rest-length))
-        ∙ ap (λ (l : List ℕ). extend (take (getD area (i + 1) 0) (drop (i + 2) area)) (further code l)) (drop-drop (getD area (i + 1) 0) (i + 2) area)
+        ∙ ap (λ (l : List ℕ). extend (take n (drop (i + 2) area)) (further code l)) (drop-drop n (i + 2) area)
 
 -- a contradiction between two runs
 cut-run : {A : Type 0} (r : Run) (m : ℕ) (vs : List ℕ) → r ≡ cut → r ≡ run m vs → A
@@ -185,9 +189,11 @@ within-in (suc k) code (b ∷ []) = go (eqb b code)
     go : (t : Bool) → bytes (cond t cut (run 0 [])) ≤ 1
     go true = omega arith
     go false = omega arith
-within-in (suc k) code (b ∷ n ∷ rest) = go (eqb b code) (leb n (length rest)) (furtherIn k code (drop n rest)) (within-in k code (drop n rest))
+within-in (suc k) code (b ∷ n ∷ rest) =
+    go (eqb b code) (leb n (length rest)) (furtherIn k code (drop n rest)) (within-in k code (drop n rest))
   where
-    go : (t u : Bool) (r : Run) → bytes r ≤ length (drop n rest) → bytes (cond t (cond u (extend (take n rest) r) cut) (run 0 [])) ≤ suc (suc (length rest))
+    go : (t u : Bool) (r : Run) → bytes r ≤ length (drop n rest)
+        → bytes (cond t (cond u (extend (take n rest) r) cut) (run 0 [])) ≤ suc (suc (length rest))
     go true true cut h = omega arith
     go true true (run m ws) h = omega (arith, length-append (take n rest) ws, length-take n rest, length-drop n rest)
     go true false r h = omega arith

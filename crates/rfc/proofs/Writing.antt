@@ -75,7 +75,8 @@ module _ (bytes room : List ℕ) (place : ℕ) where
     module _ (b : place + length bytes ≤ length room) where
       pub putting-given : answerTo (putting bytes room place) room place ≡ given (place + length bytes)
       unfolding putting writeChecks
-      putting-given = write-given (putting bytes room place) room place (next (not-past place room a) (next (not-full room place bytes b) done))
+      putting-given =
+          write-given (putting bytes room place) room place (next (not-past place room a) (next (not-full room place bytes b) done))
 
       pub putting-left : roomAfter (putting bytes room place) room place ≡ over room place bytes
       unfolding putting writeChecks
@@ -140,7 +141,8 @@ module _ (code : ℕ) (v room : List ℕ) (place : ℕ) where
               (later (not-long room a) (later (not-past place room b) (later (a-code code c d) (here (much v e)))))
 
           module _ (e : length v ≤ mostValue) where
-            pub bytes-8 : length room < place + length (encode mostPart code v) → answerTo (writeBytes code v room place) room place ≡ refused 8
+            pub bytes-8 : length room < place + length (encode mostPart code v)
+                → answerTo (writeBytes code v room place) room place ≡ refused 8
             unfolding writeBytes writeChecks
             bytes-8 f =
                 write-refused _ room place

@@ -75,7 +75,8 @@ returns-6 c =
     let end = c .before .before .if4 .left in
     let little = c .before .if5 .left in
     refuses _ (a .room .now) (a .place) 8
-    (bytes-8 (a .code) (a .value .now) (a .room .now) (a .place) short within pad end little (omega (arith, length-encode mostPart (lit< tt) (a .code) (a .value .now))))
+    (bytes-8 (a .code) (a .value .now) (a .room .now) (a .place) short within pad end little
+    (omega (arith, length-encode mostPart (lit< tt) (a .code) (a .value .now))))
 
 add-to : tie.Need-add-to
 add-to c = search needs
