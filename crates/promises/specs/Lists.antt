@@ -9,7 +9,7 @@ use lib.ListN.{length, drop}
 use Rattle.facts.specs.Over.{over}
 use Rattle.rfc.specs.Numbers.{given, mostBytes, mostValue}
 use Rattle.rfc.specs.Walk.{stop, end}
-use Rattle.rfc.specs.Lists.{Opt, Valid, Bytes, encodeAll, made, writeAll, Listing, listing}
+use Rattle.rfc.specs.Lists.{Opt, Valid, Bytes, encodeAll, finished, writeAll, Listing, listing}
 
 -- the walk lists exactly these options and stops at the End that ends there
 abbrev pub listed : List Opt → ℕ → Listing
@@ -20,7 +20,7 @@ listed options at = record { options = options; ending = given (stop end at) }
 -- lists exactly those options and stops at that End."
 pub record ThereAndBack (options : List Opt) (room behind : List ℕ) (place join : ℕ) : Type 0 where
   -- the writers put the list's bytes at the place, and nothing else changes
-  pub written : writeAll options room place ≡ made (place + length (encodeAll options)) (over room place (encodeAll options))
+  pub written : writeAll options room place ≡ finished (over room place (encodeAll options)) (place + length (encodeAll options))
   -- those bytes are walked as the list, whatever stands behind them
   pub walked : listing (encodeAll options ++ behind) join ≡ listed options (length (encodeAll options))
   -- and so is the room itself, from the place on, with what it held behind them

@@ -11,10 +11,10 @@ use lib.Seq.{drop-append-seam}
 use Rattle.facts.specs.Over.{over}
 use Rattle.facts.specs.Pieces.{pieces}
 use Rattle.facts.proofs.Over.{over-over, length-over}
-use Rattle.rfc.specs.Numbers.{Answer, given, mostBytes, mostValue, mostPart, padCode, endCode}
+use Rattle.rfc.specs.Numbers.{Answer, given, andThen, mostBytes, mostValue, mostPart, padCode, endCode}
 use Rattle.rfc.specs.Walk.{Found, stop, option, end, run, further, walk, roomFor, step}
 use Rattle.rfc.specs.Writing.{encode, Write, answerTo, roomAfter, writeBytes, close}
-use Rattle.rfc.specs.Lists.{Opt, Good, Differs, Valid, encodeAll, Made, made, andThen, does, finished, writeAll, Listing, onward, listIn, listing}
+use Rattle.rfc.specs.Lists.{Opt, Good, Differs, Valid, encodeAll, Made, does, finished, writeAll, Listing, onward, listIn, listing}
 use Rattle.rfc.proofs.Walk.{further-other, walk-end, stop-answered, answered, step-walks}
 use Rattle.rfc.proofs.Writing.{encode-more, close-given, close-left, bytes-given, bytes-left}
 use Rattle.rfc.proofs.Parts.{walk-encode}
@@ -23,15 +23,15 @@ some-part : 0 < mostPart
 some-part = lit< tt
 
 -- Writing. A write that is given is followed by the next, in the room that it leaves
-goes-on : (w : Write) (room room′ : List ℕ) (place to : ℕ) (more : List ℕ → ℕ → Made)
+goes-on : (w : Write) (room room′ : List ℕ) (place to : ℕ) (more : List ℕ → ℕ → Answer Made)
     → answerTo w room place ≡ given to → roomAfter w room place ≡ room′ → does w room place more ≡ more room′ to
 unfolding does andThen
-goes-on w room room′ place to more a b = (λ i. andThen (a i) (b i) more)
+goes-on w room room′ place to more a b = λ i. andThen (a i) (more (b i))
 
 -- a list that fits is written as its bytes, at any place
 pub writes-all : (os : List Opt) (room : List ℕ) (place : ℕ)
     → Valid os → length room ≤ mostBytes → place + length (encodeAll os) ≤ length room
-    → writeAll os room place ≡ made (place + length (encodeAll os)) (over room place (encodeAll os))
+    → writeAll os room place ≡ finished (over room place (encodeAll os)) (place + length (encodeAll os))
 unfolding writeAll encodeAll
 writes-all [] room place v h k =
     let p : place ≤ length room = omega arith in
@@ -51,7 +51,7 @@ writes-all (o ∷ os) room place v h k =
     ∙ writes-all os (over room place here) (place + length here) (v .2)
     (omega (arith, length-over room place here f))
     (omega (arith, length-over room place here f))
-    ∙ (λ i. made (e i) (over-over room place here there f i))
+    ∙ (λ i. finished (over-over room place here there f i) (e i))
 
 -- Walking. A call behind what has been walked
 step-behind : (area pre x : List ℕ) (room : ℕ) → area ≡ pre ++ x → length area ≤ mostBytes

@@ -1,6 +1,6 @@
 -- The fixed header of a message (RFC 2131, section 2, figure 1 and table 1; document 01, "The fixed header").
 -- Assumes nothing.
-use Prim.Native.Nat.{ℕ, suc, _+_}
+use Prim.Native.Nat.{ℕ, suc, _+_, _-_}
 use mathlib.Core.Bool.{Bool, cond}
 use mathlib.Core.List.{List, [], _∷_, _++_}
 use lib.ListN.{length, take, drop}
@@ -20,7 +20,7 @@ part start len = record { start = start; len = len }
 abbrev pub bytesOf : Part → List ℕ → List ℕ
 bytesOf p message = take (p .len) (drop (p .start) message)
 
--- figure 1: the fields and their sizes, one behind the other; behind `file` stands what section 3 calls the magic cookie
+-- figure 1: the fields, one behind the other. (Behind `file` stands what section 3 calls the magic cookie)
 abbrev pub op : Part
 op = part 0 1
 
@@ -107,13 +107,18 @@ file message = textField fileField message
 abbrev pub magic : List ℕ
 magic = 99 ∷ 130 ∷ 83 ∷ 99 ∷ []
 
--- the options: behind the magic to the message's end, or nowhere, where the magic is another
+unfoldable pub magicRight : List ℕ → Bool
+magicRight message = eqb (number (bytesOf magicField message)) (number magic)
+
+-- the area of options: all that stands behind the magic, or nothing, where the magic is another
 pub data Area : Type 0 where
   options : Part → Area
   wrongMagic : Area
 
+abbrev pub areaStart : ℕ
+areaStart = magicField .start + magicField .len
+
 unfoldable pub area : List ℕ → Answer Area
 area message =
-    let behind = magicField .start + magicField .len in
     checked (messageChecks message)
-    (given (cond (eqb (number (bytesOf magicField message)) (number magic)) (options (part behind (length (drop behind message)))) wrongMagic))
+    (given (cond (magicRight message) (options (part areaStart (length message - areaStart))) wrongMagic))

@@ -1,5 +1,5 @@
--- The kind of each option code, and the bytes in one element of a kind (RFC 2132, sections 3 to 9, and the RFCs that define later codes;
--- document 01, "Kinds of value").
+-- The kind of each option code, and the bytes in one element of a kind (RFC 2132, sections 3 to 9, and the RFCs of later codes; document
+-- 01, "Kinds of value").
 -- Assumes nothing.
 use Prim.Native.Nat.{ℕ}
 use mathlib.Core.List.{List, [], _∷_, _++_, map}
@@ -19,7 +19,8 @@ rowOf kind (from low high) = row low high kind
 abbrev pub has : ℕ → List Codes → List (Row ℕ)
 has kind codes = map (rowOf kind) codes
 
--- the document's table: address, addresses, pairs, byte, yes/no, u16, u16 list, u32, i32, text, codes, node type, message type, three bytes, flag
+-- the document's table. 1 address, 2 addresses, 3 pairs, 4 byte, 5 yes/no, 6 u16, 7 u16 list, 8 u32, 9 i32, 10 text, 11 codes, 12 node
+-- type, 13 message type, 14 three bytes, 15 flag
 unfoldable pub kinds : List (Row ℕ)
 kinds =
     has 1 (only 1 ∷ only 16 ∷ only 28 ∷ only 32 ∷ only 50 ∷ only 54 ∷ only 118 ∷ only 150 ∷ [])
@@ -33,7 +34,8 @@ kinds =
     ++ has 8 (only 24 ∷ only 35 ∷ only 38 ∷ only 51 ∷ only 58 ∷ only 59 ∷ only 91 ∷ only 106 ∷ from 152 155 ∷ [])
     ++ has 9 (only 2 ∷ [])
     ++ has 10
-    (only 12 ∷ only 14 ∷ only 15 ∷ only 17 ∷ only 18 ∷ only 40 ∷ only 47 ∷ only 56 ∷ only 62 ∷ only 64 ∷ only 100 ∷ only 101 ∷ only 114 ∷ [])
+    (only 12 ∷ only 14 ∷ only 15 ∷ only 17 ∷ only 18 ∷ only 40 ∷ only 47 ∷ only 56 ∷ only 62 ∷ only 64
+    ∷ only 100 ∷ only 101 ∷ only 114 ∷ [])
     ++ has 11 (only 55 ∷ [])
     ++ has 12 (only 46 ∷ [])
     ++ has 13 (only 53 ∷ [])

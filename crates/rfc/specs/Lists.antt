@@ -4,7 +4,7 @@ use Prim.Native.Nat.{ℕ, suc, zero, _≤_, _<_}
 use mathlib.Core.Path.{_≡_}
 use mathlib.Core.List.{List, [], _∷_, _++_}
 use lib.ListN.{length}
-use Rattle.rfc.specs.Numbers.{Answer, given, refused, needs, mostValue, mostPart, endCode}
+use Rattle.rfc.specs.Numbers.{Answer, given, refused, needs, andThen, mostValue, mostPart, endCode}
 use Rattle.rfc.specs.Walk.{Found, stop, option, step}
 use Rattle.rfc.specs.Writing.{encode, Write, answerTo, roomAfter, writeBytes, close}
 
@@ -40,25 +40,20 @@ unfoldable pub encodeAll : List Opt → List ℕ
 encodeAll [] = endCode ∷ []
 encodeAll (o ∷ os) = encode mostPart (o .code) (o .value) ++ encodeAll os
 
--- a run of writes: the place behind the last and what the room then holds, or the first refusal
-pub data Made : Type 0 where
-  made : ℕ → List ℕ → Made
-  failed : Made
+-- where a run of writes has come to: what the room holds, and the place behind the last write
+pub record Made : Type 0 where
+  pub room : List ℕ
+  pub place : ℕ
 
--- a write, and what follows it from the place that it answers, in the room that it leaves
-unfoldable pub andThen : Answer ℕ → List ℕ → (List ℕ → ℕ → Made) → Made
-andThen (given next) room more = more room next
-andThen (refused k) room more = failed
-andThen (needs n) room more = failed
+abbrev pub finished : List ℕ → ℕ → Answer Made
+finished room place = given (record { room = room; place = place })
 
-unfoldable pub does : Write → List ℕ → ℕ → (List ℕ → ℕ → Made) → Made
-does w room place more = andThen (answerTo w room place) (roomAfter w room place) more
+-- a write, and what follows it in the room that it leaves, from the place that it answers
+unfoldable pub does : Write → List ℕ → ℕ → (List ℕ → ℕ → Answer Made) → Answer Made
+does w room place more = andThen (answerTo w room place) (more (roomAfter w room place))
 
-abbrev pub finished : List ℕ → ℕ → Made
-finished room place = made place room
-
--- the options written one behind the other, each as a byte value, and closed
-unfoldable pub writeAll : List Opt → List ℕ → ℕ → Made
+-- the options written one behind the other, each as a byte value, and closed; the first refusal ends it
+unfoldable pub writeAll : List Opt → List ℕ → ℕ → Answer Made
 writeAll [] room place = does (close room place) room place finished
 writeAll (o ∷ os) room place = does (writeBytes (o .code) (o .value) room place) room place (writeAll os)
 

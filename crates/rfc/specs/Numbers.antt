@@ -8,30 +8,42 @@ use mathlib.Core.List.{List, [], _∷_, _++_}
 use lib.ListN.{length}
 use lib.Dec.{eqb, leb, ltb}
 
--- what every entry point answers: what was asked for, or a refusal by its number; 5 with the length that is needed
+-- what every entry point answers
 pub data Answer (A : Type 0) : Type 0 where
+  -- what was asked for
   given : A → Answer A
+  -- a refusal by its number
   refused : ℕ → Answer A
+  -- refusal 5, and the length that is needed
   needs : ℕ → Answer A
 
--- the limits: the fewest bytes of a message; the most bytes of a message, an area, a room or a value to be read; the most bytes of a
--- value to be written; the most bytes of one part of it (its length is one byte: RFC 2132, section 2)
+-- what is made of what was given; a refusal stands
+unfoldable pub andThen : {A B : Type 0} → Answer A → (A → Answer B) → Answer B
+andThen (given a) f = f a
+andThen (refused number) f = refused number
+andThen (needs len) f = needs len
+
+-- the fewest bytes of a message
 abbrev pub leastMessage : ℕ
 leastMessage = 240
 
+-- the most bytes of a message, an area, a room or a value to be read
 abbrev pub mostBytes : ℕ
 mostBytes = 65535
 
+-- the most bytes of a value to be written
 abbrev pub mostValue : ℕ
 mostValue = 4080
 
+-- the most bytes of one part of a value: its length is one byte (RFC 2132, section 2)
 abbrev pub mostPart : ℕ
 mostPart = 255
 
--- the two codes that have no length and no value: Pad and End (RFC 2132, sections 3.1 and 3.2)
+-- the two codes that have no length and no value: Pad (RFC 2132, section 3.1)
 abbrev pub padCode : ℕ
 padCode = 0
 
+-- and End (RFC 2132, section 3.2)
 abbrev pub endCode : ℕ
 endCode = 255
 
@@ -63,7 +75,7 @@ tooMuch value = ltb mostValue (length value)
 unfoldable pub noRoom : List ℕ → ℕ → List ℕ → Bool
 noRoom room place bytes = ltb (length room) (place + length bytes)
 
--- (3, 5, 9 to 14 are about one thing each, and stand with it.)
+-- (3 stands in Header, 5 in Walk, 10, 11 and 14 in Values, 9 and 13 in Typed, 12 in Routes.)
 
 -- a check: the number is given where the test holds
 pub data Check : Type 0 where

@@ -1,4 +1,5 @@
--- How a typed value is written: its bytes by its kind, lists cut at whole elements (RFC 2132, sections 3 to 9; document 01, "Writing").
+-- How a typed value is written: its bytes by its kind, lists cut at whole elements (RFC 2132, sections 3 to 9; document 01,
+-- "Writing").
 -- Assumes nothing.
 use Prim.Native.Nat.{ℕ, _*_, _/_, _%_}
 use mathlib.Core.Bool.{Bool, cond, not, _&&_}

@@ -9,7 +9,7 @@ use lib.ListN.{length, getD, take}
 use Rattle.facts.specs.BigEndian.{number, signed}
 use Rattle.facts.specs.Pieces.{pieces}
 use Rattle.facts.specs.Ranges.{Row, row, lookup}
-use Rattle.rfc.specs.Numbers.{Answer, given, refused, needs, Check, check, checked, tooLong, noElement, noCode}
+use Rattle.rfc.specs.Numbers.{Answer, given, andThen, Check, check, checked, tooLong, noElement, noCode}
 use Rattle.rfc.specs.Walk.{Found, stop, option, Stop}
 use Rattle.rfc.specs.Kinds.{kindOf, sizeOf}
 use Rattle.rfc.specs.Text.{utf8}
@@ -36,7 +36,8 @@ numbersOf width v = map number (pieces width v)
 unfoldable pub widthOf : ℕ → ℕ
 widthOf kind = lookup 1 (row 2 3 4 ∷ row 7 7 2 ∷ []) kind
 
--- what each kind holds, where `first` is the number that its first element's bytes are. Bytes behind a number are not looked at; yes is 1
+-- what each kind holds, where `first` is the number that its first element's bytes are. Bytes behind a number are not looked at, and
+-- only 1 is yes
 unfoldable pub contents : ℕ → List ℕ → ℕ → List (Row Content)
 contents kind v first =
     row 0 0 (raw v)
@@ -118,11 +119,9 @@ elements value = elementsIn (value .content)
 unfoldable pub elementAt : ℕ → List (List ℕ) → Answer (List ℕ)
 elementAt index l = checked (check (noElement index (length l)) 4 ∷ []) (given (getD l index []))
 
--- the element at an index of a value of a code
+-- the element at an index of what was read
 unfoldable pub element : ℕ → Answer Value → Answer (List ℕ)
-element index (given value) = elementAt index (elements value)
-element index (refused k) = refused k
-element index (needs n) = needs n
+element index reading = andThen reading (λ (value : Value). elementAt index (elements value))
 
 -- the node types by their byte (RFC 2132, section 8.7)
 pub data Node : Type 0 where
@@ -137,14 +136,10 @@ pub data Whole : Type 0 where
   stopped : Stop → ℕ → Whole
   valued : Value → ℕ → Whole
 
-unfoldable pub placed : ℕ → Answer Value → Answer Whole
-placed at (given value) = given (valued value at)
-placed at (refused k) = refused k
-placed at (needs n) = needs n
+unfoldable pub readFound : Mode → Found → Answer Whole
+readFound mode (stop s at) = given (stopped s at)
+readFound mode (option code v n at) = andThen (read mode code v) (λ (value : Value). given (valued value at))
 
 -- what a call of the walk answered, read: a stop passes through, and the walk's refusals come first
 unfoldable pub readOption : Mode → Answer Found → Answer Whole
-readOption mode (given (stop s at)) = given (stopped s at)
-readOption mode (given (option code v n at)) = placed at (read mode code v)
-readOption mode (refused k) = refused k
-readOption mode (needs n) = needs n
+readOption mode answer = andThen answer (readFound mode)

@@ -1,4 +1,5 @@
--- How a value is written in parts, and what a write answers and leaves (RFC 2132, section 2; RFC 3396, section 6; document 01, "Writing").
+-- How a value is written in parts, and what a write answers and leaves (RFC 2132, section 2; RFC 3396, section 6; document 01,
+-- "Writing").
 -- Assumes nothing.
 use Prim.Native.Nat.{ℕ, _+_}
 use mathlib.Core.List.{List, [], _∷_, _++_}
