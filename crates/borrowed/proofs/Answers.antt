@@ -10,10 +10,10 @@ use Rattle.facts.specs.Over.{over}
 use Rattle.facts.proofs.Over.{length-over, shown-over}
 use Rattle.rfc.specs.Numbers.{Answer, given, refused, needs}
 use Rattle.rfc.specs.Walk as rfc
-use Rattle.rfc.specs.Walk.{cut, run, extend, further, joined, roomFor, joinAfter, stop, option}
+use Rattle.rfc.specs.Walk.{run, extend, further, joined, roomFor, joinAfter, placeAfter, stop, option}
 use Rattle.rfc.proofs.Walk.{joined-run, stop-answered, stop-keeps, refused-keeps, needs-keeps, one-answered, one-keeps, many-answered, many-joined, many-needs}
 use Rattle.rfc.proofs.Places.{further-more-at, run-within, run-none}
-use Rattle.borrowed.specs.Walked.{sizeOf, values, stopOf, shown, says, Inside, Walked, Parted, AtPart}
+use Rattle.borrowed.specs.Walked.{values, stopOf, Walked, Parted, AtPart, says, placeOf}
 use Rattle.borrowed.specs.declared.answer.Stop.{Stop}
 use Rattle.borrowed.specs.declared.answer.Step.{Step}
 use Rattle.borrowed.specs.declared.answer.Step.the-variants.{Stopped, Found, Refused, Needs}
@@ -155,3 +155,11 @@ module _ (area join : List ℕ) (at code parts len more : ℕ) (h : Parted area 
         (ap (roomFor (length join)) found
         ∙ many-answered (length join) join code (v ++ vs) (parts + 1) place (omega arith) (omega (arith, all-length)))
         join′ (omega arith) (omega arith) fits (sym all-length) g (e ∙ ap (λ (q : rfc.Run). over join 0 (values q)) all-is)
+
+-- where the walk goes on is what the definition says of what was answered
+pub place-says : (r : Step) (area join : List ℕ) (place : ℕ) → placeOf r place ≡ placeAfter (says r area join) place
+unfolding placeAfter
+place-says (Stopped s at) area join place = refl
+place-says (Found code parts len at) area join place = refl
+place-says (Refused k) area join place = refl
+place-says (Needs n) area join place = refl

@@ -8,8 +8,8 @@ use denote.Ref.{now}
 use Rattle.facts.proofs.Unique.{Unique, UniqueLeft, UniqueShown}
 use Rattle.rfc.specs.Numbers.{Answer, given, refused, needs}
 use Rattle.rfc.specs.Walk as rfc
-use Rattle.rfc.specs.Walk.{stop, option, placeAfter}
-use Rattle.borrowed.specs.Walked.{stopOf, says, Inside, Walked, placeOf}
+use Rattle.rfc.specs.Walk.{stop, option}
+use Rattle.borrowed.specs.Walked.{stopOf, says, Inside, Walked}
 use Rattle.borrowed.specs.declared.answer.Stop.{Stop}
 use Rattle.borrowed.specs.declared.answer.Stop.the-variants.{Out, End, CutLength, CutValue, CutContinuation}
 use Rattle.borrowed.specs.declared.answer.Step.{Step}
@@ -60,14 +60,6 @@ walked-one {area = area} {j₁ = j₁} {j₂ = j₂} {r₁ = r₁} {r₂ = r₂}
   sym (says-back r₁ area j₁ (p .inside)) ∙ ap back (p .told ∙ sym (q .told)) ∙ says-back r₂ area j₂ (q .inside),
   p .kept ∙ sym (q .kept),
 )
-
--- where the walk goes on is what the definition says of what was answered
-pub place-says : (r : Step) (area join : List ℕ) (place : ℕ) → placeOf r place ≡ placeAfter (says r area join) place
-unfolding placeAfter
-place-says (Stopped s at) area join place = refl
-place-says (Found code parts len at) area join place = refl
-place-says (Refused k) area join place = refl
-place-says (Needs n) area join place = refl
 
 step-unique : UniqueLeft 2 step-kinds.ps step-kinds.r step.Post (λ κs s. now (s .1 .1 .0))
 step-unique κs a x y s t p q = walked-one p q

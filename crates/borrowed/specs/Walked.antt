@@ -52,6 +52,10 @@ pub record Walked (area join join′ : List ℕ) (r : Step) (answer : Answer rfc
   pub inside : Inside r area join′
   pub kept : join′ ≡ joinAfter answer join
 
+-- one call at a place
+abbrev pub Stepped : List ℕ → ℕ → List ℕ → List ℕ → Step → Type 0
+Stepped area place join join′ r = Walked area join join′ r (rfc.step area place (length join))
+
 -- where the walk goes on after a step from a place
 abbrev pub placeOf : Step → ℕ → ℕ
 placeOf (Stopped s at) place = at

@@ -5,8 +5,8 @@ mod parts;
 ghost use Prim.Native.Nat.{_≤_};
 ghost use mathlib.Core.Path.{_≡_};
 ghost use lib.ListN.{length, drop};
-ghost use Rattle.rfc.specs.Walk.{roomFor, walk, step as stepping};
-ghost use Rattle.borrowed.specs.Walked.{Walked, Skipped, Ready, partOf, shown, placeOf};
+ghost use Rattle.rfc.specs.Walk.{roomFor, walk};
+ghost use Rattle.borrowed.specs.Walked.{Walked, Stepped, Skipped, Ready, partOf, shown, placeOf};
 use answer::Run;
 use answer::Step;
 use answer::Stop;
@@ -14,8 +14,7 @@ use limits::MOST_BYTES;
 
 // One call at `place`. An option of two parts or more is joined in `join`.
 pub fn step(area: &[u8], place: usize, join: &mut [u8]) -> Step
-    ensures { λ r. ⌜ Walked (now (area .entry)) (now (join .entry)) (now (join .exit)) r
-        (stepping (now (area .entry)) place (length (now (join .entry)))) ⌝ }
+    ensures { λ r. ⌜ Stepped (now (area .entry)) place (now (join .entry)) (now (join .exit)) r ⌝ }
 {
     if area.len() > MOST_BYTES {
         return Step::Refused(2);

@@ -3,9 +3,8 @@
 use mathlib.Core.Path.{_≡_, refl, sym, ap, _∙_}
 use Prim.Native.Nat.{ℕ, suc, _+_, _-_, _≤_, _<_}
 use native.Mathlib.Omega.{arith}
-use native.Mathlib.Numerals.{add-one}
 use mathlib.Core.List.{List, [], _∷_, _++_, append-assoc, append-nil}
-use lib.ListN.{length, take, drop, set, getD, length-drop, length-take, length-append, take-append-drop}
+use lib.ListN.{length, take, drop, set, getD, length-drop, length-append, take-append-drop}
 use lib.Seq.{length-take-le, take-at, drop-at, take-add, drop-append-add, drop-cons, drop-drop, set-split, append-snoc}
 use Rattle.facts.specs.Over.{over}
 

@@ -6,7 +6,7 @@ use native.Mathlib.Omega.{arith}
 use native.Mathlib.Nat.{not-suc-le-zero, le-refl, div-eq-of-lt, div-eq-sub-div}
 use native.Mathlib.Decide.{decLe}
 use mathlib.Core.List.{List, [], _∷_, _++_, flatten}
-use lib.ListN.{length, take, drop, length-drop, take-append-drop, drop-of-length-le}
+use lib.ListN.{length, take, drop, length-drop, take-append-drop}
 use Rattle.facts.specs.Pieces.{piecesIn, pieces}
 
 module _ (size : ℕ) (some : 0 < size) where

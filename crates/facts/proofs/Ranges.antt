@@ -1,7 +1,7 @@
 -- A list of ranges gives one answer to all numbers from one to another: a test that antt computes, and the law that uses it.
 -- It serves each branch of a function that goes by ranges.
 -- Assumes nothing.
-use mathlib.Core.Path.{_≡_, refl, _∙_, ap, sym, subst}
+use mathlib.Core.Path.{_≡_, refl, ap}
 use mathlib.Core.Bool.{Bool, true, false, cond, _&&_, _||_}
 use mathlib.Core.List.{List, [], _∷_}
 use mathlib.Core.Option.{Option, none, some}

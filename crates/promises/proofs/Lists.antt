@@ -1,13 +1,11 @@
 -- Demand 3 holds, by the laws of `rfc`.
 -- Assumes nothing.
-use mathlib.Core.Path.{_≡_, refl, sym, ap, _∙_}
-use Prim.Native.Nat.{ℕ, _+_, _-_, _≤_}
+use mathlib.Core.Path.{sym, ap, _∙_}
+use Prim.Native.Nat.{ℕ, _+_, _-_}
 use native.Mathlib.Omega.{arith}
-use mathlib.Core.List.{List, _++_, append-assoc}
-use lib.ListN.{length, take, drop, length-append, length-drop}
-use Rattle.facts.specs.Over.{over}
+use mathlib.Core.List.{List}
+use lib.ListN.{length, drop, length-append, length-drop}
 use Rattle.facts.proofs.Over.{from-over}
-use Rattle.rfc.specs.Numbers.{mostBytes, mostValue}
 use Rattle.rfc.specs.Lists.{encodeAll, listing}
 use Rattle.rfc.proofs.Lists.{writes-all, walks-all, one-list}
 use Rattle.rfc.proofs.Fewest.{fewest}

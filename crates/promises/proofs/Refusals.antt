@@ -1,18 +1,18 @@
 -- What refusals, stops and writes leave, by the laws of `rfc`.
 -- Assumes nothing.
-use mathlib.Core.Path.{_≡_, refl, sym, ap, _∙_}
+use mathlib.Core.Path.{_≡_, sym, ap, _∙_}
 use Prim.Native.Nat.{ℕ, _+_, _-_, _≤_}
 use native.Mathlib.Omega.{arith}
 use mathlib.Core.List.{List}
 use lib.ListN.{length, take, drop}
 use Rattle.facts.specs.Over.{over}
 use Rattle.facts.proofs.Over.{length-over, before-over, behind-over, shown-over}
-use Rattle.rfc.specs.Numbers.{Answer, given, refused, needs}
-use Rattle.rfc.specs.Walk.{Found, stop, step, joinAfter, placeAfter}
-use Rattle.rfc.specs.Writing.{Write, answerTo, roomAfter}
+use Rattle.rfc.specs.Numbers.{Answer}
+use Rattle.rfc.specs.Walk.{Found, step, joinAfter, placeAfter}
+use Rattle.rfc.specs.Writing.{roomAfter}
 use Rattle.rfc.proofs.Walk.{stop-keeps, refused-keeps, needs-keeps, refused-stays, needs-stays}
 use Rattle.rfc.proofs.Writing.{refused-left, given-left, given-to, given-fits}
-use Rattle.promises.specs.Refusals.{Refusal, byNumber, byLength, WalkRefusals, WalkStops, WriteRefusals, Changed, WriteChanges}
+use Rattle.promises.specs.Refusals.{Refusal, byNumber, byLength, WalkRefusals, WalkStops, WriteRefusals, WriteChanges}
 
 keeps : (a : Answer Found) (join : List ℕ) (place : ℕ) → Refusal a → (joinAfter a join ≡ join) × (placeAfter a place ≡ place)
 keeps a join place (byNumber k) = (refused-keeps 0 join k, refused-stays k place)

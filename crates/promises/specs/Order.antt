@@ -4,13 +4,13 @@
 use Prim.Native.Nat.{ℕ}
 use mathlib.Core.Path.{_≡_}
 use mathlib.Core.Bool.{Bool, true, false, cond}
-use mathlib.Core.List.{List, [], _∷_, _++_, map}
+use mathlib.Core.List.{List, [], _∷_, map}
 use lib.Dec.{eqb}
 use Rattle.rfc.specs.Numbers.{Check, check, order}
 use Rattle.rfc.specs.Header.{messageChecks, chaddrChecks}
 use Rattle.rfc.specs.Walk.{stepChecks}
 use Rattle.rfc.specs.Values.{Value, Mode, readChecks}
-use Rattle.rfc.specs.Writing.{Write, writeChecks, putting, writeBytes, close}
+use Rattle.rfc.specs.Writing.{writeChecks, putting, writeBytes, close}
 use Rattle.rfc.specs.Typed.{writeValue}
 use Rattle.rfc.specs.Routes.{Route, writeRoutes}
 

@@ -1,14 +1,14 @@
 -- No area lists the same in fewer bytes: what every call takes at the least, added up over a listing.
 -- Assumes nothing.
 use mathlib.Core.Path.{_≡_, refl, ap}
-use Prim.Native.Nat.{ℕ, suc, zero, _+_, _-_, _*_, _/_, _≤_, _<_}
+use Prim.Native.Nat.{ℕ, suc, zero, _+_, _-_, _*_, _≤_, _<_}
 use native.Mathlib.Omega.{arith}
-use mathlib.Core.List.{List, [], _∷_, _++_}
+use mathlib.Core.List.{List, [], _∷_}
 use mathlib.Core.Bool.{Bool, true, false, cond}
 use lib.ListN.{length, take, drop, length-append, length-take}
 use lib.Dec.{leb, eqb, lit<}
 use Rattle.rfc.specs.Numbers.{Answer, given, refused, needs, mostPart, padCode, endCode, checked, tooLong, pastEnd}
-use Rattle.rfc.specs.Walk.{Stop, end, cutLength, cutValue, cutContinuation, Found, stop, option, Run, cut, run, extend, furtherIn, further, joined, behind, walk, roomFor, stepChecks, step}
+use Rattle.rfc.specs.Walk.{end, cutValue, Found, stop, option, Run, cut, run, extend, furtherIn, further, joined, behind, walk, roomFor, stepChecks, step}
 use Rattle.rfc.specs.Writing.{encode}
 use Rattle.rfc.specs.Lists.{Opt, encodeAll, Listing, onward, listIn, listing, Bytes}
 use Rattle.rfc.proofs.Writing.{length-encode}

@@ -5,7 +5,7 @@ use Prim.Native.Nat.{ℕ, suc, zero, _+_, _-_, _≤_, _<_}
 use native.Mathlib.Omega.{arith}
 use native.Mathlib.Nat.{not-suc-le-zero, le-refl}
 use mathlib.Core.List.{List, [], _∷_, _++_, append-assoc, append-nil}
-use lib.ListN.{length, take, drop, length-append}
+use lib.ListN.{length, drop, length-append}
 use lib.Dec.{lit<}
 use lib.Seq.{drop-append-seam}
 use Rattle.facts.specs.Over.{over}
@@ -14,7 +14,7 @@ use Rattle.facts.proofs.Over.{over-over, length-over}
 use Rattle.rfc.specs.Numbers.{Answer, given, andThen, mostBytes, mostValue, mostPart, padCode, endCode}
 use Rattle.rfc.specs.Walk.{Found, stop, option, end, run, further, walk, roomFor, step}
 use Rattle.rfc.specs.Writing.{encode, Write, answerTo, roomAfter, writeBytes, close}
-use Rattle.rfc.specs.Lists.{Opt, Good, Differs, Valid, encodeAll, Made, does, finished, writeAll, Listing, onward, listIn, listing}
+use Rattle.rfc.specs.Lists.{Opt, Differs, Valid, encodeAll, Made, does, finished, writeAll, Listing, onward, listIn, listing}
 use Rattle.rfc.proofs.Walk.{further-other, walk-end, stop-answered, answered, step-walks}
 use Rattle.rfc.proofs.Writing.{encode-more, close-given, close-left, bytes-given, bytes-left}
 use Rattle.rfc.proofs.Parts.{walk-encode}

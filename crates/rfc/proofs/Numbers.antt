@@ -1,12 +1,11 @@
 -- The laws of `specs/Numbers.antt`: what each test says, and which check decides.
 -- Assumes nothing.
-use mathlib.Core.Path.{_≡_, refl, ap, _∙_}
+use mathlib.Core.Path.{_≡_, refl}
 use Prim.Native.Nat.{ℕ, _+_, _≤_, _<_}
-use mathlib.Core.Bool.{Bool, true, false, cond, _||_}
+use mathlib.Core.Bool.{Bool, true, false}
 use mathlib.Core.List.{List, [], _∷_, _++_}
 use native.Mathlib.Omega.{arith}
 use lib.ListN.{length}
-use lib.Dec.{eqb}
 use borrow.Author.Tests.{lt-ltb, le-ltb, ltb-false, eq-eqb, ne-eqb}
 use Rattle.rfc.specs.Numbers.{Answer, given, refused, mostBytes, mostValue, padCode, endCode, tooLong, pastEnd, noCode, tooMuch, noRoom, Check, check, checked}
 

@@ -1,14 +1,14 @@
 -- The walk over the bytes of one written value: it is one option, whatever the size of its parts.
 -- Assumes nothing.
 use mathlib.Core.Path.{_≡_, refl, sym, ap, _∙_}
-use Prim.Native.Nat.{ℕ, suc, zero, _+_, _-_, _*_, _≤_, _<_}
+use Prim.Native.Nat.{ℕ, _+_, _-_, _*_, _≤_, _<_}
 use native.Mathlib.Omega.{arith}
 use mathlib.Core.List.{List, [], _∷_, _++_, append-assoc, flatten}
 use lib.ListN.{length, take, drop, length-append, take-append-drop}
 use lib.Seq.{take-append-seam, drop-append-seam}
 use Rattle.facts.specs.Pieces.{pieces}
 use Rattle.facts.proofs.Pieces.{pieces-more, flatten-pieces}
-use Rattle.rfc.specs.Walk.{Run, run, extend, further, joined, walk, option}
+use Rattle.rfc.specs.Walk.{run, extend, further, joined, walk, option}
 use Rattle.rfc.specs.Writing.{partsOf, encode}
 use Rattle.rfc.proofs.Walk.{further-more, walk-code, behind-whole, joined-run}
 use Rattle.rfc.proofs.Writing.{length-parts}

@@ -10,7 +10,7 @@ use native.Mathlib.Decide.{decLe, decLt, ℕ-discrete}
 use mathlib.Core.Bool.{Bool, true, false, cond}
 use lib.Dec.{eqb, leb}
 use Rattle.rfc.specs.Numbers.{padCode, endCode}
-use Rattle.rfc.specs.Walk.{Run, cut, run, extend, furtherIn, further, joined, behind, walk, Found, stop, out, end, cutLength, cutValue}
+use Rattle.rfc.specs.Walk.{Run, cut, run, extend, furtherIn, further, joined, walk, stop, out, end, cutLength, cutValue}
 use Rattle.rfc.proofs.Walk.{further-none, further-other, further-no-length, further-no-value, further-more, walk-out, walk-pad, walk-end, walk-code, behind-none, behind-short, behind-whole}
 
 module _ (area : List ℕ) (i : ℕ) where

@@ -1,14 +1,14 @@
 -- The laws of `specs/Writing.antt`: the bytes of a value, and each writer by its checks.
 -- Assumes nothing.
-use mathlib.Core.Path.{_≡_, refl, sym, ap, _∙_}
-use Prim.Native.Nat.{ℕ, suc, _+_, _-_, _*_, _/_, _≤_, _<_}
+use mathlib.Core.Path.{_≡_, refl, sym, ap}
+use Prim.Native.Nat.{ℕ, _+_, _-_, _*_, _/_, _≤_, _<_}
 use native.Mathlib.Omega.{arith}
 use mathlib.Core.List.{List, [], _∷_, _++_, flatten}
 use lib.ListN.{length, take, drop, length-append}
 use Rattle.facts.specs.Over.{over}
 use Rattle.facts.specs.Pieces.{pieces}
 use Rattle.facts.proofs.Pieces.{pieces-none, pieces-more, flatten-pieces, count-pieces}
-use Rattle.rfc.specs.Numbers.{Answer, given, refused, check, mostBytes, mostValue, mostPart, padCode, endCode, noRoom}
+use Rattle.rfc.specs.Numbers.{Answer, given, refused, mostBytes, mostValue, mostPart, padCode, endCode, noRoom}
 use Rattle.rfc.specs.Writing.{partsOf, encode, Write, writeChecks, answerTo, roomLeft, roomAfter, putting, writeBytes, close}
 use Rattle.rfc.proofs.Numbers.{Refuses, here, later, refuses, Clear, done, next, clears, given-is, given-clear, long, not-long, past, not-past, pad-code, end-code, a-code, much, not-much, full, not-full, room-left}
 

@@ -6,7 +6,7 @@ use mathlib.Core.List.{List, [], _∷_, _++_}
 use lib.ListN.{take}
 use lib.Dec.{ltb}
 use Rattle.facts.specs.BigEndian.{digits}
-use Rattle.rfc.specs.Numbers.{Check, check, mostPart, tooLong, pastEnd, tooMuch}
+use Rattle.rfc.specs.Numbers.{check, mostPart, tooLong, pastEnd, tooMuch}
 use Rattle.rfc.specs.Writing.{Write, encode}
 
 -- a route: the width of its subnet mask, its destination and its gateway, addresses as numbers

@@ -7,7 +7,7 @@ use mathlib.Core.List.{List, [], _∷_, map, flatten}
 use lib.ListN.{length}
 use lib.Dec.{eqb}
 use Rattle.facts.specs.BigEndian.{digits, unsigned}
-use Rattle.rfc.specs.Numbers.{Check, check, mostPart, tooLong, pastEnd, noCode, tooMuch}
+use Rattle.rfc.specs.Numbers.{check, mostPart, tooLong, pastEnd, noCode, tooMuch}
 use Rattle.rfc.specs.Kinds.{kindOf, sizeOf}
 use Rattle.rfc.specs.Values.{Content, raw, natural, integer, truth, numbers, nothing, Value, widthOf, notText}
 use Rattle.rfc.specs.Writing.{Write, encode}

@@ -1,3 +1,5 @@
+-- `part` meets its contract: the bytes are there, or they are not.
+-- Assumes nothing.
 use mathlib.Core.Path.{_≡_, sym, ap, _∙_}
 use Prim.Native.Nat.{ℕ, _+_, _-_}
 use native.Mathlib.Omega.{arith}

@@ -1,3 +1,5 @@
+-- `place_after` meets its contract, case by case.
+-- Assumes nothing.
 use borrow.Author.Needs.{needs}
 use Rattle.borrowed.proofs.place_after.Statement.{statement}
 use Rattle.borrowed.proofs.place_after.Tie as tie

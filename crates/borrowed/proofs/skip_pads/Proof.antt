@@ -1,8 +1,9 @@
-use Prim.Native.Nat.{ℕ, _≤_, _-_, _+_}
+-- `skip_pads` meets its contract: a Pad that is passed does not change what the walk finds.
+-- Assumes nothing.
+use Prim.Native.Nat.{_≤_, _-_}
 use mathlib.Core.Path.{_≡_, refl, _∙_}
 use native.Mathlib.Omega.{arith}
-use borrow.Author.Needs.{needs}
-use lib.ListN.{length, drop, getD}
+use lib.ListN.{length, drop}
 use Rattle.rfc.specs.Walk.{walk}
 use Rattle.rfc.proofs.Places.{pad-at}
 use Rattle.borrowed.proofs.skip_pads.Statement.{statement}

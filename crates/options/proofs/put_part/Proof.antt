@@ -1,3 +1,5 @@
+-- `put_part` meets its contract: two stores and a copy are one write.
+-- Assumes nothing.
 use mathlib.Core.Path.{_≡_, ap, _∙_}
 use Prim.Native.Nat.{ℕ, _+_, _-_}
 use mathlib.Core.List.{List}

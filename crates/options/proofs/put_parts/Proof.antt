@@ -1,3 +1,5 @@
+-- `put_parts` meets its contract: after each turn some whole parts are written (`Sofar`), and the next one fits.
+-- Assumes nothing.
 use Prim.Native.Nat.{_+_, _-_, _≤_}
 use native.Mathlib.Omega.{arith}
 use borrow.Author.Needs.{needs}

@@ -1,3 +1,5 @@
+-- `list` is safe and ends: each turn has one less left.
+-- Assumes nothing.
 use borrow.Author.Needs.{needs}
 use mathlib.Core.Path.{_≡_}
 use lib.ListN.{length}

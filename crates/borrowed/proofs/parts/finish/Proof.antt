@@ -1,3 +1,5 @@
+-- `finish` meets its contract: one part, too little room to join in, or all parts joined.
+-- Assumes nothing.
 use Prim.Native.Nat.{_+_, _*_, _≤_}
 use lib.ListN.{length}
 use native.Mathlib.Omega.{arith}

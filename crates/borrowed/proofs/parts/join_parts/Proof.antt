@@ -1,9 +1,11 @@
+-- `join_parts` meets its contract: after each turn some parts are joined (`Joined`), and the next one fits.
+-- Assumes nothing.
 use Prim.Native.Nat.{ℕ, _+_, _-_, _≤_}
 use mathlib.Core.Path.{_≡_, ap, _∙_}
 use mathlib.Core.List.{List}
 use native.Mathlib.Omega.{arith}
 use borrow.Author.Needs.{needs}
-use lib.ListN.{length, take, drop, getD, length-take, length-drop}
+use lib.ListN.{length, take, drop, getD, length-take}
 use Rattle.facts.specs.Over.{over}
 use Rattle.encoder.proofs.Answers.{put-over}
 use Rattle.borrowed.proofs.Joining.{Joined, joined-none, part-within, value-fits, joined-more, joined-all}

@@ -1,7 +1,9 @@
-use Prim.Native.Nat.{ℕ, suc, _≤_, _<_, _-_, _+_, _*_}
-use mathlib.Core.Path.{_≡_, refl, sym, ap, _∙_}
+-- `scan` meets its contract: what was counted, in front of the run that is left, is the whole run (`grow`).
+-- Assumes nothing.
+use Prim.Native.Nat.{_≤_, _-_, _+_, _*_}
+use mathlib.Core.Path.{_≡_, sym, _∙_}
 use native.Mathlib.Omega.{arith}
-use lib.ListN.{length, drop, getD}
+use lib.ListN.{length, drop}
 use Rattle.rfc.specs.Walk.{further}
 use Rattle.rfc.proofs.Places.{further-none-at, further-other-at, further-no-length-at, further-no-value-at}
 use Rattle.borrowed.specs.Walked.{sizeOf}
