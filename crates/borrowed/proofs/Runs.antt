@@ -10,8 +10,8 @@ use Rattle.rfc.specs.Walk as rfc
 use Rattle.rfc.specs.Walk.{cut, run, extend, further}
 use Rattle.rfc.proofs.Places.{further-more-at}
 use Rattle.borrowed.specs.Walked.{sizeOf, values}
-use Rattle.borrowed.specs.declared.answer.Run.{Run}
-use Rattle.borrowed.specs.declared.answer.Run.the-variants.{Cut, Whole}
+use Rattle.borrowed.specs.declared.parts.Run.{Run}
+use Rattle.borrowed.specs.declared.parts.Run.the-variants.{Cut, Whole}
 
 -- a run that is known by its numbers
 pub whole-is : (parts len : ℕ) (r : rfc.Run) → Whole parts len ≡ sizeOf r → (r ≡ run parts (values r)) × (length (values r) ≡ len)

@@ -13,8 +13,8 @@ use Rattle.borrowed.specs.declared.answer.Stop.{Stop}
 use Rattle.borrowed.specs.declared.answer.Stop.the-variants.{Out, End, CutLength, CutValue, CutContinuation}
 use Rattle.borrowed.specs.declared.answer.Step.{Step}
 use Rattle.borrowed.specs.declared.answer.Step.the-variants.{Stopped, Found, Refused, Needs}
-use Rattle.borrowed.specs.declared.answer.Run.{Run}
-use Rattle.borrowed.specs.declared.answer.Run.the-variants.{Cut, Whole}
+use Rattle.borrowed.specs.declared.parts.Run.{Run}
+use Rattle.borrowed.specs.declared.parts.Run.the-variants.{Cut, Whole}
 
 -- each stop's name in the definitions
 abbrev pub stopOf : Stop → rfc.Stop

@@ -25,9 +25,3 @@ pub enum Step {
     // Refusal 5, with the length that is needed.
     Needs(usize),
 }
-
-// The further parts of an option: one is cut, or so many, with so many bytes of values.
-pub enum Run {
-    Cut,
-    Whole { parts: usize, len: usize },
-}

@@ -7,10 +7,10 @@ ghost use mathlib.Core.Path.{_≡_};
 ghost use lib.ListN.{length, drop};
 ghost use Rattle.rfc.specs.Walk.{roomFor, walk};
 ghost use Rattle.borrowed.specs.Walked.{Walked, Stepped, Skipped, Ready, partOf, shown, placeOf};
-use answer::Run;
 use answer::Step;
 use answer::Stop;
 use limits::MOST_BYTES;
+use parts::Run;
 
 // One call at `place`. An option of two parts or more is joined in `join`.
 pub fn step(area: &[u8], place: usize, join: &mut [u8]) -> Step

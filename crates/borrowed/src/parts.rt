@@ -6,8 +6,13 @@ ghost use Rattle.facts.specs.Over.{over};
 ghost use Rattle.rfc.specs.Numbers.{mostBytes};
 ghost use Rattle.rfc.specs.Walk.{further, roomFor, joined};
 ghost use Rattle.borrowed.specs.Walked.{Walked, sizeOf, AtPart, Parted, values};
-use crate::answer::Run;
 use crate::answer::Step;
+
+// The further parts of an option: one is cut, or so many, with so many bytes of values.
+pub enum Run {
+    Cut,
+    Whole { parts: usize, len: usize },
+}
 
 // The further parts of `code` from `at` on.
 pub(crate) fn scan(area: &[u8], at: usize, code: u8) -> Run
