@@ -1,6 +1,6 @@
 -- Each answer of a step says what the definitions say.
 -- Assumes nothing.
-use mathlib.Core.Path.{_≡_, refl, sym, ap, _∙_, subst}
+use mathlib.Core.Path.{_≡_, sym, ap, _∙_, subst}
 use Prim.Native.Nat.{ℕ, suc, _+_, _-_, _*_, _≤_, _<_}
 use native.Mathlib.Omega.{arith}
 use mathlib.Core.List.{List, [], _++_, append-nil}
@@ -11,7 +11,7 @@ use Rattle.facts.proofs.Over.{length-over, shown-over}
 use Rattle.rfc.specs.Numbers.{Answer, given, refused, needs}
 use Rattle.rfc.specs.Walk as rfc
 use Rattle.rfc.specs.Walk.{run, extend, further, joined, roomFor, joinAfter, placeAfter, stop, option}
-use Rattle.rfc.proofs.Walk.{joined-run, stop-answered, stop-keeps, refused-keeps, needs-keeps, one-answered, one-keeps, many-answered, many-joined, many-needs}
+use Rattle.rfc.proofs.Walk.{extend-run, stop-moves, option-moves, refused-stays, needs-stays, joined-run, stop-answered, stop-keeps, refused-keeps, needs-keeps, one-answered, one-keeps, many-answered, many-joined, many-needs}
 use Rattle.rfc.proofs.Places.{further-more-at, run-within, run-none}
 use Rattle.borrowed.specs.Walked.{values, stopOf, Walked, Parted, AtPart, says, placeOf}
 use Rattle.borrowed.specs.declared.answer.Stop.{Stop}
@@ -102,13 +102,13 @@ module _ (area join : List ℕ) (at code parts len more : ℕ) (h : Parted area 
 
   -- all parts, from the first on
   all-is : further code (drop at area) ≡ run (parts + 1) (v ++ vs)
-  unfolding extend
   all-is =
       let e : getD area (at + 1) 0 ≡ len = h .len-is in
       let s : suc parts ≡ parts + 1 = omega arith in
       further-more-at area at code (h .code-is) (omega (arith, h))
       ∙ ap (λ (n : ℕ). extend (take n (drop (at + 2) area)) (further code (drop (at + 2 + n) area))) e
       ∙ ap (extend v) r-is
+      ∙ extend-run v parts vs
       ∙ ap (λ (n : ℕ). run n (v ++ vs)) s
 
   pub all-parts : len + more ≤ length join → AtPart area at code (parts + 1) (length join)
@@ -158,8 +158,7 @@ module _ (area join : List ℕ) (at code parts len more : ℕ) (h : Parted area 
 
 -- where the walk goes on is what the definition says of what was answered
 pub place-says : (r : Step) (area join : List ℕ) (place : ℕ) → placeOf r place ≡ placeAfter (says r area join) place
-unfolding placeAfter
-place-says (Stopped s at) area join place = refl
-place-says (Found code parts len at) area join place = refl
-place-says (Refused k) area join place = refl
-place-says (Needs n) area join place = refl
+place-says (Stopped s at) area join place = sym (stop-moves (stopOf s) at place)
+place-says (Found code parts len at) area join place = sym (option-moves code _ parts at place)
+place-says (Refused k) area join place = sym (refused-stays k place)
+place-says (Needs n) area join place = sym (needs-stays n place)

@@ -8,6 +8,7 @@ use lib.ListN.{length, take, drop, getD, length-drop, length-append}
 use lib.Seq.{length-take-le}
 use Rattle.rfc.specs.Walk as rfc
 use Rattle.rfc.specs.Walk.{cut, run, extend, further}
+use Rattle.rfc.proofs.Walk.{extend-cut, extend-run}
 use Rattle.rfc.proofs.Places.{further-more-at}
 use Rattle.borrowed.specs.Walked.{sizeOf, values}
 use Rattle.borrowed.specs.declared.parts.Run.{Run}
@@ -34,12 +35,11 @@ grow-none (Whole n m) = let a : n ≡ 0 + n = omega arith in let b : m ≡ 0 + m
 -- one part more
 grow-more : (parts len n : ℕ) (v : List ℕ) (r : rfc.Run) → length v ≡ n
     → grow parts len (sizeOf (extend v r)) ≡ grow (parts + 1) (len + n) (sizeOf r)
-unfolding extend
-grow-more parts len n v cut e = refl
+grow-more parts len n v cut e = ap (λ (q : rfc.Run). grow parts len (sizeOf q)) (extend-cut v)
 grow-more parts len n v (run k vs) e =
     let a : parts + suc k ≡ parts + 1 + k = omega arith in
     let b : len + length (v ++ vs) ≡ len + n + length vs = omega (arith, length-append v vs) in
-    λ i. Whole (a i) (b i)
+    ap (λ (q : rfc.Run). grow parts len (sizeOf q)) (extend-run v k vs) ∙ (λ i. Whole (a i) (b i))
 
 -- the end of a scan: no further part, so what has been counted is all
 pub grow-run : (parts len : ℕ) (r : rfc.Run) → r ≡ run 0 [] → Whole parts len ≡ grow parts len (sizeOf r)
