@@ -66,15 +66,15 @@ fileField = part 108 128
 abbrev pub magicField : Part
 magicField = part 236 4
 
--- every reading of the header begins with these checks
+-- every reading of the header begins with these checks (document 01)
 unfoldable pub messageChecks : List ℕ → List Check
 messageChecks message = check (tooLong message) 2 ∷ check (tooShort message) 1 ∷ []
 
--- a field as a number, in network byte order
+-- a field as a number, in network byte order (section 2)
 unfoldable pub field : Part → List ℕ → Answer ℕ
 field f message = checked (messageChecks message) (given (number (bytesOf f message)))
 
--- the hlen bytes from chaddr's first place on: up to 255 of them, as the crate shows them, though RFC 2131 gives the field 16
+-- the hlen bytes from chaddr's first place on: up to 255 of them, as the crate shows them, though figure 1 gives the field 16
 unfoldable pub chaddrPart : List ℕ → Part
 chaddrPart message = part (chaddrField .start) (number (bytesOf hlen message))
 

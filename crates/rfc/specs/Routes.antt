@@ -9,7 +9,7 @@ use Rattle.facts.specs.BigEndian.{digits}
 use Rattle.rfc.specs.Numbers.{check, mostPart, tooLong, pastEnd, tooMuch}
 use Rattle.rfc.specs.Writing.{Write, encode}
 
--- a route: the width of its subnet mask, its destination and its gateway, addresses as numbers
+-- a route (RFC 3442, "Classless Route Option Format"): the width of its subnet mask, its destination and its gateway, addresses as numbers
 pub record Route : Type 0 where
   pub width : ℕ
   pub destination : ℕ
@@ -38,7 +38,7 @@ unfoldable pub tooWide : List Route → Bool
 tooWide [] = false
 tooWide (r ∷ rs) = ltb mostWidth (r .width) || tooWide rs
 
--- all routes joined, then split as a byte value
+-- all routes joined, then split as a byte value (RFC 3442, "Requirements to Avoid Sizing Constraints")
 unfoldable pub writeRoutes : List Route → List ℕ → ℕ → Write
 writeRoutes rs room place =
     record {

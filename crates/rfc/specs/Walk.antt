@@ -9,7 +9,7 @@ use lib.Dec.{eqb, leb}
 use Rattle.facts.specs.Over.{over}
 use Rattle.rfc.specs.Numbers.{Answer, given, refused, needs, Check, check, checked, padCode, endCode, tooLong, pastEnd}
 
--- the five stops
+-- the five stops (document 01)
 pub data Stop : Type 0 where
   out end cutLength cutValue cutContinuation : Stop
 
@@ -19,7 +19,7 @@ pub data Found : Type 0 where
   stop : Stop → ℕ → Found
   option : ℕ → List ℕ → ℕ → ℕ → Found
 
--- the further parts of an option: one of them is cut, or so many with these values joined
+-- the further parts of an option (RFC 3396, section 7): one of them is cut, or so many with these values joined
 pub data Run : Type 0 where
   cut : Run
   run : ℕ → List ℕ → Run
@@ -29,7 +29,8 @@ unfoldable pub extend : List ℕ → Run → Run
 extend v cut = cut
 extend v (run n vs) = run (suc n) (v ++ vs)
 
--- the parts of `code` that a list begins with, looking at no more than so many
+-- the parts of `code` that a list begins with, looking at no more than so many. A part is its code, the length of its value and the value
+-- (RFC 2132, section 2)
 unfoldable pub furtherIn : ℕ → ℕ → List ℕ → Run
 furtherIn zero code rest = run 0 []
 furtherIn (suc k) code [] = run 0 []
@@ -41,18 +42,18 @@ furtherIn (suc k) code (b ∷ n ∷ rest) =
 unfoldable pub further : ℕ → List ℕ → Run
 further code rest = furtherIn (length rest) code rest
 
--- the first part is complete, has the value v and ends at the place `at`
+-- the first part is complete, has the value v and ends at the place `at`; the values are joined in their order (RFC 3396, section 7)
 unfoldable pub joined : ℕ → List ℕ → ℕ → Run → Found
 joined code v at cut = stop cutContinuation at
 joined code v at (run n vs) = option code (v ++ vs) (n + 1) (at + (2 * n + length vs))
 
--- behind a code: its length byte is at the place `at`
+-- behind a code: its length byte is at the place `at` (RFC 2132, section 2)
 unfoldable pub behind : ℕ → ℕ → List ℕ → Found
 behind code at [] = stop cutLength at
 behind code at (n ∷ rest) =
     cond (leb n (length rest)) (joined code (take n rest) (at + 1 + n) (further code (drop n rest))) (stop cutValue (at + 1))
 
--- from the place `at`, with the bytes from there on: Pads are skipped, and End stops
+-- from the place `at`, with the bytes from there on: Pads are skipped, and End stops (RFC 2132, sections 3.1 and 3.2)
 unfoldable pub walk : ℕ → List ℕ → Found
 walk at [] = stop out at
 walk at (b ∷ rest) =
@@ -67,7 +68,7 @@ roomFor room (option code v n at) =
 unfoldable pub stepChecks : List ℕ → ℕ → List Check
 stepChecks area place = check (tooLong area) 2 ∷ check (pastEnd place area) 4 ∷ []
 
--- one call, on any area, from any place, with so much room to join in
+-- one call, on any area, from any place, with so much room to join in (document 01)
 unfoldable pub step : List ℕ → ℕ → ℕ → Answer Found
 step area place room = checked (stepChecks area place) (roomFor room (walk place (drop place area)))
 

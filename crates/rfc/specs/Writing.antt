@@ -8,16 +8,16 @@ use Rattle.facts.specs.Over.{over}
 use Rattle.facts.specs.Pieces.{pieces}
 use Rattle.rfc.specs.Numbers.{Answer, given, refused, needs, Check, check, checked, mostPart, endCode, tooLong, pastEnd, noCode, tooMuch, noRoom}
 
--- a part for each piece: the code, the piece's length, the piece
+-- a part for each piece: the code, the piece's length, the piece (RFC 2132, section 2)
 unfoldable pub partsOf : ℕ → List (List ℕ) → List ℕ
 partsOf code [] = []
 partsOf code (p ∷ ps) = code ∷ length p ∷ (p ++ partsOf code ps)
 
--- a value in parts of so many bytes, the last one shorter; an empty value is no part
+-- a value in parts of so many bytes, the last one shorter; an empty value is no part (RFC 3396, section 6)
 unfoldable pub encode : ℕ → ℕ → List ℕ → List ℕ
 encode size code v = partsOf code (pieces size v)
 
--- a write into a room at a place: its checks, in their order, and the bytes that it puts there
+-- a write into a room at a place (document 01): its checks, in their order, and the bytes that it puts there
 pub record Write : Type 0 where
   pub checks : List Check
   pub bytes : List ℕ
@@ -51,6 +51,6 @@ writeBytes code v room place =
       bytes = encode mostPart code v;
     }
 
--- End
+-- End (RFC 2132, section 3.2)
 unfoldable pub close : List ℕ → ℕ → Write
 close room place = record { checks = check (tooLong room) 2 ∷ check (pastEnd place room) 4 ∷ []; bytes = endCode ∷ [] }
