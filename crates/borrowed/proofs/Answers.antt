@@ -24,13 +24,13 @@ use Rattle.borrowed.proofs.Shown.{part-there, shown-one, shown-many}
 module _ (area join : List ℕ) (a : Answer rfc.Found) where
   pub stopped : (s : Stop) (at : ℕ) → a ≡ given (stop (stopOf s) at) → Walked area join join (Stopped s at) a
   stopped s at e =
-      record { told = sym e; inside = tt; kept = sym (ap (λ (x : Answer rfc.Found). joinAfter x join) e ∙ stop-keeps 0 join (stopOf s) at) }
+      record { told = sym e; inside = tt; kept = sym (ap (λ (x : Answer rfc.Found). joinAfter x join) e ∙ stop-keeps join (stopOf s) at) }
 
   pub refuses : (k : ℕ) → a ≡ refused k → Walked area join join (Refused k) a
-  refuses k e = record { told = sym e; inside = tt; kept = sym (ap (λ (x : Answer rfc.Found). joinAfter x join) e ∙ refused-keeps 0 join k) }
+  refuses k e = record { told = sym e; inside = tt; kept = sym (ap (λ (x : Answer rfc.Found). joinAfter x join) e ∙ refused-keeps join k) }
 
   pub asks : (n : ℕ) → a ≡ needs n → Walked area join join (Needs n) a
-  asks n e = record { told = sym e; inside = tt; kept = sym (ap (λ (x : Answer rfc.Found). joinAfter x join) e ∙ needs-keeps 0 join n) }
+  asks n e = record { told = sym e; inside = tt; kept = sym (ap (λ (x : Answer rfc.Found). joinAfter x join) e ∙ needs-keeps join n) }
 
   module _ (code : ℕ) (v : List ℕ) (parts len place : ℕ) (e : a ≡ given (option code v parts place)) where
     pub finds-one : parts ≤ 1 → len ≤ place → place ≤ length area → take len (drop (place - len) area) ≡ v
@@ -40,7 +40,7 @@ module _ (area join : List ℕ) (a : Answer rfc.Found) where
         record {
           told = ap (λ (x : List ℕ). given (option code x parts place)) (shown-one parts len place area join p h ∙ there ∙ s) ∙ sym e;
           inside = (h, g, λ k. absurd (let f : ⊥ = omega arith in f));
-          kept = sym (ap (λ (x : Answer rfc.Found). joinAfter x join) e ∙ one-keeps 0 join code v parts place p);
+          kept = sym (ap (λ (x : Answer rfc.Found). joinAfter x join) e ∙ one-keeps join code v parts place p);
         }
 
     pub finds-many : (join′ : List ℕ) → 1 < parts → len ≤ place → place ≤ length area → len ≡ length v → len ≤ length join
@@ -55,14 +55,14 @@ module _ (area join : List ℕ) (a : Answer rfc.Found) where
               (shown-many parts len place area join′ p ∙ part-there join′ 0 len (omega arith) ∙ there)
               ∙ sym e;
           inside = (h, g, λ _. omega arith);
-          kept = j ∙ sym (ap (λ (x : Answer rfc.Found). joinAfter x join) e ∙ many-joined 0 join code v parts place p);
+          kept = j ∙ sym (ap (λ (x : Answer rfc.Found). joinAfter x join) e ∙ many-joined join code v parts place p);
         }
 
 -- a stop that the definitions find is answered
 pub stops : (area join : List ℕ) (s : Stop) (at : ℕ) (f : rfc.Found) → f ≡ stop (stopOf s) at
     → Walked area join join (Stopped s at) (roomFor (length join) f)
 stops area join s at f e =
-    stopped area join _ s at (ap (roomFor (length join)) e ∙ stop-answered (length join) join (stopOf s) at)
+    stopped area join _ s at (ap (roomFor (length join)) e ∙ stop-answered (length join) (stopOf s) at)
 
 -- the same answer by another name
 pub same-answer : {area join join′ : List ℕ} {s : Step} {a b : Answer rfc.Found} → a ≡ b
@@ -137,7 +137,7 @@ module _ (area join : List ℕ) (at code parts len more : ℕ) (h : Parted area 
       finds-one area join says-parts code v 1 len place
       (ap (roomFor (length join))
       (found ∙ (λ i. option code (v ++ none i) (a i) place) ∙ ap (λ (l : List ℕ). option code l 1 place) (append-nil v))
-      ∙ one-answered (length join) join code v 1 place (omega arith))
+      ∙ one-answered (length join) code v 1 place (omega arith))
       (omega arith) (omega arith) fits (ap (λ (k : ℕ). take len (drop k area)) b)
 
   module _ (two : parts ≡ 0 → ⊥) where
@@ -145,7 +145,7 @@ module _ (area join : List ℕ) (at code parts len more : ℕ) (h : Parted area 
     too-long g =
         asks area join says-parts (len + more)
         (ap (roomFor (length join)) found
-        ∙ many-needs (length join) join code (v ++ vs) (parts + 1) place (omega arith) (omega (arith, all-length))
+        ∙ many-needs (length join) code (v ++ vs) (parts + 1) place (omega arith) (omega (arith, all-length))
         ∙ ap (λ (n : ℕ). needs n) all-length)
 
     pub joined-parts : (join′ : List ℕ) → join′ ≡ over join 0 (values (further code (drop at area))) → len + more ≤ length join
@@ -153,7 +153,7 @@ module _ (area join : List ℕ) (at code parts len more : ℕ) (h : Parted area 
     joined-parts join′ e g =
         finds-many area join says-parts code (v ++ vs) (parts + 1) (len + more) place
         (ap (roomFor (length join)) found
-        ∙ many-answered (length join) join code (v ++ vs) (parts + 1) place (omega arith) (omega (arith, all-length)))
+        ∙ many-answered (length join) code (v ++ vs) (parts + 1) place (omega arith) (omega (arith, all-length)))
         join′ (omega arith) (omega arith) fits (sym all-length) g (e ∙ ap (λ (q : rfc.Run). over join 0 (values q)) all-is)
 
 -- where the walk goes on is what the definition says of what was answered

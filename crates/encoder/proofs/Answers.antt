@@ -7,8 +7,8 @@ use lib.ListN.{length}
 use native.Mathlib.Omega.{arith}
 use Rattle.facts.specs.Over.{over}
 use Rattle.rfc.specs.Numbers.{given, refused}
-use Rattle.rfc.specs.Writing.{Write, answerTo, roomAfter, putting}
-use Rattle.rfc.proofs.Writing.{refused-left, putting-left}
+use Rattle.rfc.specs.Writing.{Write, answerTo, roomAfter, writeSlice}
+use Rattle.rfc.proofs.Writing.{refused-left, slice-left}
 use Rattle.encoder.specs.Written.{says, Wrote}
 use Rattle.encoder.specs.declared.Written.{Written}
 use Rattle.encoder.specs.declared.Written.the-variants.{To, Refused}
@@ -37,5 +37,5 @@ wrote-one {a = a} {b = b} p q = (says-one a b (p .told ∙ sym (q .told)), p .le
 
 -- bytes that fit are put over what stood there
 pub put-over : (bytes room room′ : List ℕ) (place : ℕ) (r : Written) → place + length bytes ≤ length room
-    → Wrote (putting bytes room place) room room′ place r → room′ ≡ over room place bytes
-put-over bytes room room′ place r h w = w .left ∙ putting-left bytes room place (omega arith) h
+    → Wrote (writeSlice bytes room place) room room′ place r → room′ ≡ over room place bytes
+put-over bytes room room′ place r h w = w .left ∙ slice-left bytes room place (omega arith) h

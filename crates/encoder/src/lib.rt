@@ -4,7 +4,7 @@ ghost use mathlib.Core.Path.{_≡_};
 ghost use Prim.Native.Nat.{_+_, _≤_};
 ghost use lib.ListN.{length};
 ghost use Rattle.facts.specs.Over.{over};
-ghost use Rattle.rfc.specs.Writing.{putting};
+ghost use Rattle.rfc.specs.Writing.{writeSlice};
 ghost use Rattle.encoder.specs.Written.{Wrote};
 
 // What a write answers.
@@ -17,7 +17,7 @@ pub enum Written {
 
 // Writes `bytes` at `place` as they stand. The room may be any buffer, of any size.
 pub fn write_slice(room: &mut [u8], place: usize, bytes: &[u8]) -> Written
-    ensures { λ r. ⌜ Wrote (putting (now (bytes .entry)) (now (room .entry)) place) (now (room .entry)) (now (room .exit)) place r ⌝ }
+    ensures { λ r. ⌜ Wrote (writeSlice (now (bytes .entry)) (now (room .entry)) place) (now (room .entry)) (now (room .exit)) place r ⌝ }
 {
     if place > room.len() {
         return Written::Refused(4);

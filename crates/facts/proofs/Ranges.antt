@@ -51,13 +51,3 @@ module _ {A : Type 0} (other : A) (low high n : ℕ) (from : low ≤ n) (to : n 
   one-answer [] answer e = cc
   one-answer (row l h a ∷ rows) answer e =
       step l h a answer rows (one-answer rows answer) (ltb h low) (ltb high l) (leb l low) (leb high h) refl refl refl refl e
-
--- a number that a row of one number does not hold
-pub outside : (k n : ℕ) → (n ≡ k → ⊥) → within k k n ≡ false
-unfolding within
-outside k n ne = go (leb k n) (leb n k) refl refl
-  where
-    go : (a b : Bool) → leb k n ≡ a → leb n k ≡ b → (a && b) ≡ false
-    go true true p q = let e : n ≡ k = omega (arith, leb-true k n p, leb-true n k q) in absurd (ne e)
-    go true false p q = refl
-    go false b p q = refl

@@ -20,6 +20,7 @@ abbrev pub digits : ℕ → ℕ → List ℕ
 digits zero n = []
 digits (suc width) n = n / 256 ^ width % 256 ∷ digits width n
 
+-- the first where the test holds, else the second
 abbrev pub pickInt : Bool → ℤ → ℤ → ℤ
 pickInt true a b = a
 pickInt false a b = b
@@ -28,7 +29,7 @@ pickInt false a b = b
 abbrev pub signed : ℕ → ℤ
 signed x = pickInt (ltb x (2 ^ 31)) (pos x) (negsuc (2 ^ 32 - suc x))
 
--- the 32 bits of a number from -(2 ^ 31) to 2 ^ 31 - 1: below 0, the number and 2 ^ 32
+-- the 32 bits of a number from -(2 ^ 31) to 2 ^ 31 - 1: below 0, the number plus 2 ^ 32
 abbrev pub unsigned : ℤ → ℕ
 unsigned (pos n) = n
 unsigned (negsuc n) = 2 ^ 32 - suc n

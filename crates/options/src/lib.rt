@@ -6,7 +6,7 @@ ghost use Prim.Native.Nat.{_+_, _≤_, min};
 ghost use lib.ListN.{length, take, drop};
 ghost use Rattle.facts.specs.Over.{over};
 ghost use Rattle.rfc.specs.Numbers.{mostBytes, mostPart};
-ghost use Rattle.rfc.specs.Writing.{encode, writeBytes, close as closing};
+ghost use Rattle.rfc.specs.Writing.{encode, writeBytes, close};
 ghost use Rattle.encoder.specs.Written.{Wrote};
 use encoder::Written;
 use limits::MOST_BYTES;
@@ -43,7 +43,7 @@ pub fn write_bytes(room: &mut [u8], place: usize, code: u8, value: &[u8]) -> Wri
 
 // Writes End at `place`.
 pub fn close(room: &mut [u8], place: usize) -> Written
-    ensures { λ r. ⌜ Wrote (closing (now (room .entry)) place) (now (room .entry)) (now (room .exit)) place r ⌝ }
+    ensures { λ r. ⌜ Wrote (close (now (room .entry)) place) (now (room .entry)) (now (room .exit)) place r ⌝ }
 {
     if room.len() > MOST_BYTES {
         return Written::Refused(2);

@@ -4,11 +4,11 @@ use mathlib.Core.Path.{refl}
 use Rattle.rfc.specs.Header.{messageChecks, chaddrChecks}
 use Rattle.rfc.specs.Walk.{stepChecks}
 use Rattle.rfc.specs.Values.{readChecks}
-use Rattle.rfc.specs.Writing.{writeChecks, putting, writeBytes, close}
+use Rattle.rfc.specs.Writing.{writeChecks, writeSlice, writeBytes, close}
 use Rattle.rfc.specs.Typed.{writeValue}
 use Rattle.rfc.specs.Routes.{writeRoutes}
 use Rattle.promises.specs.Order.{follows, OrderOfChecks}
 
 pub order-of-checks : OrderOfChecks
-unfolding follows messageChecks chaddrChecks stepChecks readChecks writeChecks putting writeBytes close writeValue writeRoutes
+unfolding follows messageChecks chaddrChecks stepChecks readChecks writeChecks writeSlice writeBytes close writeValue writeRoutes
 order-of-checks message area room value bytes place code mode typed routes = (refl, refl, refl, refl, refl, refl, refl, refl, refl)

@@ -15,14 +15,14 @@ use Rattle.rfc.proofs.Writing.{refused-left, given-left, given-to, given-fits}
 use Rattle.promises.specs.Refusals.{Refusal, byNumber, byLength, WalkRefusals, WalkStops, WriteRefusals, WriteChanges}
 
 keeps : (a : Answer Found) (join : List ℕ) (place : ℕ) → Refusal a → (joinAfter a join ≡ join) × (placeAfter a place ≡ place)
-keeps a join place (byNumber k) = (refused-keeps 0 join k, refused-stays k place)
-keeps a join place (byLength n) = (needs-keeps 0 join n, needs-stays n place)
+keeps a join place (byNumber k) = (refused-keeps join k, refused-stays k place)
+keeps a join place (byLength n) = (needs-keeps join n, needs-stays n place)
 
 pub walk-refusals : WalkRefusals
 walk-refusals area join place r = keeps (step area place (length join)) join place r
 
 pub walk-stops : WalkStops
-walk-stops area join place at s e = ap (λ (a : Answer Found). joinAfter a join) e ∙ stop-keeps 0 join s at
+walk-stops area join place at s e = ap (λ (a : Answer Found). joinAfter a join) e ∙ stop-keeps join s at
 
 pub write-refusals : WriteRefusals
 write-refusals w room place k e = refused-left w room place k e

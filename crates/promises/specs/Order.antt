@@ -10,7 +10,7 @@ use Rattle.rfc.specs.Numbers.{Check, check, order}
 use Rattle.rfc.specs.Header.{messageChecks, chaddrChecks}
 use Rattle.rfc.specs.Walk.{stepChecks}
 use Rattle.rfc.specs.Values.{Value, Mode, readChecks}
-use Rattle.rfc.specs.Writing.{writeChecks, putting, writeBytes, close}
+use Rattle.rfc.specs.Writing.{writeChecks, writeSlice, writeBytes, close}
 use Rattle.rfc.specs.Typed.{writeValue}
 use Rattle.rfc.specs.Routes.{Route, writeRoutes}
 
@@ -33,7 +33,7 @@ OrderOfChecks =
     × InOrder (chaddrChecks message)
     × InOrder (stepChecks area place)
     × InOrder (readChecks mode code value)
-    × InOrder (writeChecks (putting bytes room place) room place)
+    × InOrder (writeChecks (writeSlice bytes room place) room place)
     × InOrder (writeChecks (writeBytes code value room place) room place)
     × InOrder (writeChecks (writeValue code typed room place) room place)
     × InOrder (writeChecks (writeRoutes routes room place) room place)

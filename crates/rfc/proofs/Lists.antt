@@ -75,7 +75,7 @@ module _ (area rest : List ℕ) (room : ℕ) (short : length area ≤ mostBytes)
   at-end pre e =
       step-behind area pre (endCode ∷ rest) room e short
       ∙ ap (roomFor room) (walk-end (length pre) endCode rest refl)
-      ∙ stop-answered room [] end (length pre + 1)
+      ∙ stop-answered room end (length pre + 1)
 
   list-in : (os : List Opt) (pre : List ℕ) (k : ℕ) → Valid os → length os ≤ k → area ≡ pre ++ (encodeAll os ++ rest)
       → listIn k area room (length pre) ≡ record { options = os; ending = given (stop end (length pre + length (encodeAll os))) }
@@ -97,7 +97,7 @@ module _ (area rest : List ℕ) (room : ℕ) (short : length area ≤ mostBytes)
       let w : step area (length pre) room ≡ given (option code value n to) =
       step-behind area pre (here ++ there) room a short
       ∙ ap (roomFor room) (walk-encode code there other (v .0 .low) (v .0 .high) mostPart some-part (length pre) value (v .0 .some))
-      ∙ answered room [] code value n to (omega (arith, v .0 .most)) in
+      ∙ answered room code value n to (omega (arith, v .0 .most)) in
       let p : to ≡ length (pre ++ here) = sym (length-append pre here) in
       let q : length (pre ++ here) + length (encodeAll os) ≡ length pre + length (here ++ encodeAll os) =
       omega (arith, length-append pre here, length-append here (encodeAll os)) in

@@ -9,7 +9,7 @@ use Rattle.facts.specs.Over.{over}
 use Rattle.facts.specs.Pieces.{pieces}
 use Rattle.facts.proofs.Pieces.{pieces-none, pieces-more, flatten-pieces, count-pieces}
 use Rattle.rfc.specs.Numbers.{Answer, given, refused, mostBytes, mostValue, mostPart, padCode, endCode, noRoom}
-use Rattle.rfc.specs.Writing.{partsOf, encode, Write, writeChecks, answerTo, roomLeft, roomAfter, putting, writeBytes, close}
+use Rattle.rfc.specs.Writing.{partsOf, encode, Write, writeChecks, answerTo, roomLeft, roomAfter, writeSlice, writeBytes, close}
 use Rattle.rfc.proofs.Numbers.{Refuses, here, later, refuses, Clear, done, next, clears, given-is, given-clear, long, not-long, past, not-past, pad-code, end-code, a-code, much, not-much, full, not-full, room-left}
 
 -- two bytes for each part
@@ -63,24 +63,24 @@ module _ (w : Write) (room : List ℕ) (place : ℕ) where
 
 -- some bytes as they stand
 module _ (bytes room : List ℕ) (place : ℕ) where
-  pub putting-4 : length room < place → answerTo (putting bytes room place) room place ≡ refused 4
-  unfolding putting writeChecks
-  putting-4 a = write-refused _ room place (here (past place room a))
+  pub slice-4 : length room < place → answerTo (writeSlice bytes room place) room place ≡ refused 4
+  unfolding writeSlice writeChecks
+  slice-4 a = write-refused _ room place (here (past place room a))
 
   module _ (a : place ≤ length room) where
-    pub putting-8 : length room < place + length bytes → answerTo (putting bytes room place) room place ≡ refused 8
-    unfolding putting writeChecks
-    putting-8 b = write-refused _ room place (later (not-past place room a) (here (full room place bytes b)))
+    pub slice-8 : length room < place + length bytes → answerTo (writeSlice bytes room place) room place ≡ refused 8
+    unfolding writeSlice writeChecks
+    slice-8 b = write-refused _ room place (later (not-past place room a) (here (full room place bytes b)))
 
     module _ (b : place + length bytes ≤ length room) where
-      pub putting-given : answerTo (putting bytes room place) room place ≡ given (place + length bytes)
-      unfolding putting writeChecks
-      putting-given =
-          write-given (putting bytes room place) room place (next (not-past place room a) (next (not-full room place bytes b) done))
+      pub slice-given : answerTo (writeSlice bytes room place) room place ≡ given (place + length bytes)
+      unfolding writeSlice writeChecks
+      slice-given =
+          write-given (writeSlice bytes room place) room place (next (not-past place room a) (next (not-full room place bytes b) done))
 
-      pub putting-left : roomAfter (putting bytes room place) room place ≡ over room place bytes
-      unfolding putting writeChecks
-      putting-left = given-left (putting bytes room place) room place _ putting-given
+      pub slice-left : roomAfter (writeSlice bytes room place) room place ≡ over room place bytes
+      unfolding writeSlice writeChecks
+      slice-left = given-left (writeSlice bytes room place) room place _ slice-given
 
 -- End
 module _ (room : List ℕ) (place : ℕ) where

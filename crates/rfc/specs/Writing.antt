@@ -40,8 +40,8 @@ unfoldable pub roomAfter : Write → List ℕ → ℕ → List ℕ
 roomAfter w room place = roomLeft (answerTo w room place) room place (w .bytes)
 
 -- some bytes as they stand, into any lent buffer
-unfoldable pub putting : List ℕ → List ℕ → ℕ → Write
-putting bytes room place = record { checks = check (pastEnd place room) 4 ∷ []; bytes = bytes }
+unfoldable pub writeSlice : List ℕ → List ℕ → ℕ → Write
+writeSlice bytes room place = record { checks = check (pastEnd place room) 4 ∷ []; bytes = bytes }
 
 -- a byte value, to any code from 1 to 254: parts of 255 bytes
 unfoldable pub writeBytes : ℕ → List ℕ → List ℕ → ℕ → Write

@@ -1,8 +1,8 @@
--- `write_slice` meets its contract: a law of `putting` for each return.
+-- `write_slice` meets its contract: a law of `writeSlice` for each return.
 -- Assumes nothing.
 use mathlib.Core.Path.{sym, _∙_}
 use native.Mathlib.Omega.{arith}
-use Rattle.rfc.proofs.Writing.{putting-4, putting-8, putting-given, putting-left}
+use Rattle.rfc.proofs.Writing.{slice-4, slice-8, slice-given, slice-left}
 use Rattle.encoder.proofs.Answers.{refuses, writes}
 use borrow.Author.Needs.{needs}
 use Rattle.encoder.proofs.write_slice.Statement.{statement}
@@ -11,7 +11,7 @@ use Rattle.encoder.proofs.write_slice.Tie as tie
 returns : tie.Need-returns
 returns c =
     let a = c .before .before .before .args in
-    refuses _ (a .room .now) (a .place) 4 (putting-4 (a .bytes .now) (a .room .now) (a .place) (c .if1 .taken))
+    refuses _ (a .room .now) (a .place) 4 (slice-4 (a .bytes .now) (a .room .now) (a .place) (c .if1 .taken))
 
 sub-if2 : tie.Need-sub-if2
 sub-if2 c = search needs
@@ -19,7 +19,7 @@ sub-if2 c = search needs
 returns-2 : tie.Need-returns-2
 returns-2 c =
     let a = c .before .before .before .before .args in
-    refuses _ (a .room .now) (a .place) 8 (putting-8 (a .bytes .now) (a .room .now) (a .place) (c .before .if1 .left) (omega arith))
+    refuses _ (a .room .now) (a .place) 8 (slice-8 (a .bytes .now) (a .room .now) (a .place) (c .before .if1 .left) (omega arith))
 
 add-to : tie.Need-add-to
 add-to c = search needs
@@ -35,8 +35,8 @@ returns-3 c =
     let a = c .before .before .before .before .before .before .before .before .args in
     let within = c .before .before .before .before .before .if1 .left in
     writes _ (a .room .now) (a .place) _ _
-    (putting-given (a .bytes .now) (a .room .now) (a .place) within (omega arith))
-    (putting-left (a .bytes .now) (a .room .now) (a .place) within (omega arith) ∙ sym (c .before .before .copy .ensures))
+    (slice-given (a .bytes .now) (a .room .now) (a .place) within (omega arith))
+    (slice-left (a .bytes .now) (a .room .now) (a .place) within (omega arith) ∙ sym (c .before .before .copy .ensures))
 
 pub write-slice-spec : {M : Type 1} → statement M
 write-slice-spec =
