@@ -114,7 +114,6 @@ module _ (area join : List ℕ) (at code parts len more : ℕ) (h : Parted area 
   pub all-parts : len + more ≤ length join → AtPart area at code (parts + 1) (length join)
   all-parts g =
       record {
-        short = h .short;
         whole = all-is ∙ ap (λ (q : rfc.Run). run (parts + 1) (values q)) (sym all-is);
         fits = omega (arith, ap (λ (q : rfc.Run). length (values q)) all-is, all-length);
       }

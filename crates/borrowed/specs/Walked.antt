@@ -6,7 +6,7 @@ use mathlib.Core.List.{List, []}
 use mathlib.Core.Bool.{cond}
 use lib.ListN.{length, take, drop, getD}
 use lib.Dec.{leb}
-use Rattle.rfc.specs.Numbers.{Answer, given, refused, needs, mostBytes}
+use Rattle.rfc.specs.Numbers.{Answer, given, refused, needs}
 use Rattle.rfc.specs.Walk as rfc
 use Rattle.rfc.specs.Walk.{stop, option, run, cut, further, walk, joinAfter}
 use Rattle.borrowed.specs.declared.answer.Stop.{Stop}
@@ -69,9 +69,8 @@ pub record Skipped (area : List ℕ) (place r : ℕ) : Type 0 where
   pub same : walk place (drop place area) ≡ walk r (drop r area)
   pub other : r < length area → getD area r 0 ≡ 0 → ⊥
 
--- a place at no Pad, in an area that is not too long
+-- a place of the area, at no Pad
 pub record Ready (area : List ℕ) (at : ℕ) : Type 0 where
-  pub short : length area ≤ mostBytes
   pub within : at ≤ length area
   pub other : at < length area → getD area at 0 ≡ 0 → ⊥
 
@@ -87,7 +86,6 @@ values (run n vs) = vs
 
 -- at `at` stands a first part of `len` bytes, and behind it `parts` further ones with `more` bytes
 pub record Parted (area : List ℕ) (at code parts len more : ℕ) : Type 0 where
-  pub short : length area ≤ mostBytes
   pub code-is : getD area at 0 ≡ code
   pub len-is : getD area (at + 1) 0 ≡ len
   pub within : at + 2 + len ≤ length area
@@ -95,6 +93,5 @@ pub record Parted (area : List ℕ) (at code parts len more : ℕ) : Type 0 wher
 
 -- at `at` stand exactly `parts` parts of `code`, whose values fit in `room` bytes
 pub record AtPart (area : List ℕ) (at code parts room : ℕ) : Type 0 where
-  pub short : length area ≤ mostBytes
   pub whole : further code (drop at area) ≡ run parts (values (further code (drop at area)))
   pub fits : length (values (further code (drop at area))) ≤ room

@@ -3,7 +3,6 @@ ghost use Prim.Native.Nat.{_+_, _≤_};
 ghost use mathlib.Core.Path.{_≡_};
 ghost use lib.ListN.{length, take, drop};
 ghost use Rattle.facts.specs.Over.{over};
-ghost use Rattle.rfc.specs.Numbers.{mostBytes};
 ghost use Rattle.rfc.specs.Walk.{further, roomFor, joined};
 ghost use Rattle.borrowed.specs.Walked.{Walked, sizeOf, AtPart, Parted, values};
 use crate::answer::Step;
@@ -16,7 +15,7 @@ pub enum Run {
 
 // The further parts of `code` from `at` on.
 pub(crate) fn scan(area: &[u8], at: usize, code: u8) -> Run
-    requires { ⌜ (at ≤ length (now area)) × (length (now area) ≤ mostBytes) ⌝ }
+    requires { ⌜ at ≤ length (now area) ⌝ }
     ensures { λ r. ⌜ r ≡ sizeOf (further code (drop at (now (area .entry)))) ⌝ }
 {
     let mut i = at;

@@ -5,7 +5,7 @@ ghost use mathlib.Core.List.{_∷_};
 ghost use Prim.Native.Nat.{_+_, _≤_, min};
 ghost use lib.ListN.{length, take, drop};
 ghost use Rattle.facts.specs.Over.{over};
-ghost use Rattle.rfc.specs.Numbers.{mostBytes, mostPart};
+ghost use Rattle.rfc.specs.Numbers.{mostPart};
 ghost use Rattle.rfc.specs.Writing.{encode, writeBytes, close};
 ghost use Rattle.encoder.specs.Written.{Wrote};
 use encoder::Written;
@@ -61,7 +61,7 @@ pub fn close(room: &mut [u8], place: usize) -> Written
 
 // Writes all parts of `value`.
 fn put_parts(room: &mut [u8], place: usize, code: u8, value: &[u8])
-    requires { ⌜ (length (now room) ≤ mostBytes) × (place + length (encode mostPart code (now value)) ≤ length (now room)) ⌝ }
+    requires { ⌜ place + length (encode mostPart code (now value)) ≤ length (now room) ⌝ }
     ensures { λ _. ⌜ now (room .exit) ≡ over (now (room .entry)) place (encode mostPart code (now (value .entry))) ⌝ }
 {
     let mut done: usize = 0;
@@ -83,7 +83,7 @@ fn next_piece(left: usize) -> usize
 
 // Writes one part: the code, the length, the `n` bytes of `value` from `from` on.
 fn put_part(room: &mut [u8], at: usize, code: u8, value: &[u8], from: usize, n: usize)
-    requires { ⌜ (length (now room) ≤ mostBytes) × (at + (2 + n) ≤ length (now room)) × (from + n ≤ length (now value)) × (n ≤ mostPart) ⌝ }
+    requires { ⌜ (at + (2 + n) ≤ length (now room)) × (from + n ≤ length (now value)) × (n ≤ mostPart) ⌝ }
     ensures { λ _. ⌜ now (room .exit) ≡ over (now (room .entry)) at (code ∷ n ∷ take n (drop from (now (value .entry)))) ⌝ }
 {
     room[at] = code;

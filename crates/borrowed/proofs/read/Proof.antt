@@ -89,7 +89,6 @@ enum-known-parts c = search needs
 finish-requires : tie.Need-finish-requires
 finish-requires c κs =
     record {
-      short = omega arith;
       code-is = refl;
       len-is = refl;
       within = omega arith;

@@ -1,7 +1,6 @@
 -- `step` meets its contract: two checks, then the walk behind the Pads.
 -- Assumes nothing.
 use mathlib.Core.Path.{ap, _∙_}
-use native.Mathlib.Omega.{arith}
 use borrow.Author.Needs.{needs}
 use lib.ListN.{length}
 use Rattle.rfc.specs.Walk.{roomFor}
@@ -27,7 +26,7 @@ skip-pads-requires c κs = search needs
 read-requires : tie.Need-read-requires
 read-requires c κs =
     let skipped = c .before .skip-pads .ensures in
-    record { short = omega arith; within = skipped .within; other = skipped .other }
+    record { within = skipped .within; other = skipped .other }
 
 same-length : tie.Need-same-length
 same-length c = search needs
