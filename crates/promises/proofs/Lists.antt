@@ -8,8 +8,9 @@ use lib.ListN.{length, drop, length-append, length-drop}
 use Rattle.facts.proofs.Over.{from-over}
 use Rattle.rfc.specs.Lists.{encodeAll, listing}
 use Rattle.rfc.proofs.Lists.{writes-all, walks-all, one-list}
+use Rattle.rfc.proofs.Endings.{ends}
 use Rattle.rfc.proofs.Fewest.{fewest}
-use Rattle.promises.specs.Lists.{RoundTrip, NeitherBegins, FewestBytes}
+use Rattle.promises.specs.Lists.{RoundTrip, ListingsEnd, NeitherBegins, FewestBytes}
 
 pub round-trip : RoundTrip
 round-trip options room behind place join v short fits all joins =
@@ -22,6 +23,9 @@ round-trip options room behind place join v short fits all joins =
           ap (λ (area : List ℕ). listing area join) (from-over room place bytes fits)
           ∙ walks-all options rest join v joins (omega (arith, length-append bytes rest, length-drop (place + length bytes) room));
     }
+
+pub listings-end : ListingsEnd
+listings-end area join = ends area join
 
 pub neither-begins : NeitherBegins
 neither-begins one other v w short small differ = (

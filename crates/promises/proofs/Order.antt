@@ -1,4 +1,4 @@
--- The checks stand in their order: the numbers are computed, whatever the arguments.
+-- The checks stand in their order: their numbers are computed, whatever the arguments, and the rest is by the laws of `rfc`.
 -- Assumes nothing.
 use mathlib.Core.Path.{refl}
 use Rattle.rfc.specs.Header.{messageChecks, chaddrChecks}
@@ -7,8 +7,19 @@ use Rattle.rfc.specs.Values.{readChecks}
 use Rattle.rfc.specs.Writing.{writeChecks, writeSlice, writeBytes, close}
 use Rattle.rfc.specs.Typed.{writeValue}
 use Rattle.rfc.specs.Routes.{writeRoutes}
-use Rattle.promises.specs.Order.{follows, OrderOfChecks}
+use Rattle.rfc.proofs.Walk.{needs-last}
+use Rattle.rfc.proofs.Values.{element-refused, option-refused, option-needs}
+use Rattle.promises.specs.Order.{follows, OrderOfChecks, JoinComesLast, IndexComesLast, WalkComesFirst}
 
 pub order-of-checks : OrderOfChecks
 unfolding follows messageChecks chaddrChecks stepChecks readChecks writeChecks writeSlice writeBytes close writeValue writeRoutes
 order-of-checks message area room value bytes place code mode typed routes = (refl, refl, refl, refl, refl, refl, refl, refl, refl)
+
+pub join-comes-last : JoinComesLast
+join-comes-last area place room n e = needs-last area place room n e
+
+pub index-comes-last : IndexComesLast
+index-comes-last reading index k e = element-refused index k reading e
+
+pub walk-comes-first : WalkComesFirst
+walk-comes-first mode answer k = (option-refused mode k answer, option-needs mode k answer)

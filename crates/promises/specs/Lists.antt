@@ -9,7 +9,7 @@ use lib.ListN.{length, drop}
 use Rattle.facts.specs.Over.{over}
 use Rattle.rfc.specs.Numbers.{given, mostBytes, mostValue}
 use Rattle.rfc.specs.Walk.{stop, end}
-use Rattle.rfc.specs.Lists.{Opt, Valid, Bytes, encodeAll, finished, writeAll, Listing, listing}
+use Rattle.rfc.specs.Lists.{Opt, Valid, Bytes, encodeAll, finished, writeAll, Listing, listing, Ending}
 
 -- the walk lists exactly these options and stops at the End that ends there
 abbrev pub listed : List Opt → ℕ → Listing
@@ -35,6 +35,10 @@ RoundTrip =
     → length (encodeAll options ++ behind) ≤ mostBytes
     → mostValue ≤ join
     → ThereAndBack options room behind place join
+
+-- "Lists" is whole: whatever the area, its listing ends with a stop or a refusal, and never because of a bound of its own
+abbrev pub ListingsEnd : Type 0
+ListingsEnd = (area : List ℕ) (join : ℕ) → Ending (listing area join .ending)
 
 -- "So of two different lists, neither's bytes begin the other's."
 abbrev pub Begins : List ℕ → List ℕ → Type 0

@@ -1,6 +1,6 @@
 -- Demand 1, of what is lent: "A refusal leaves all lent memory and the walk's place untouched", and document 01's "A write succeeds by
 -- changing exactly the bytes from the old place to the new one".
--- (That every entry point ends with an answer or a refusal is in its contract: none has a `requires`, and each is an equation.)
+-- (That every entry point ends with an answer or a refusal is in its contract: none has a `requires`, and each says the whole answer.)
 -- Assumes nothing.
 use Prim.Native.Nat.{ℕ, _-_}
 use mathlib.Core.Path.{_≡_}

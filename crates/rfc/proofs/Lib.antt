@@ -5,3 +5,5 @@ pub mod Writing
 pub mod Parts
 pub mod Lists
 pub mod Fewest
+pub mod Values
+pub mod Endings

@@ -1,13 +1,13 @@
 -- The laws of `specs/Numbers.antt`: what each test says, and which check decides.
 -- Assumes nothing.
-use mathlib.Core.Path.{_≡_, refl}
+use mathlib.Core.Path.{_≡_, refl, sym}
 use Prim.Native.Nat.{ℕ, _+_, _≤_, _<_}
 use mathlib.Core.Bool.{Bool, true, false}
 use mathlib.Core.List.{List, [], _∷_, _++_}
 use native.Mathlib.Omega.{arith}
 use lib.ListN.{length}
 use borrow.Author.Tests.{lt-ltb, le-ltb, ltb-false, eq-eqb, ne-eqb}
-use Rattle.rfc.specs.Numbers.{Answer, given, refused, mostBytes, mostValue, padCode, endCode, tooLong, pastEnd, noCode, tooMuch, noRoom, Check, check, checked}
+use Rattle.rfc.specs.Numbers.{Answer, given, refused, needs, andThen, mostBytes, mostValue, padCode, endCode, tooLong, pastEnd, noCode, tooMuch, noRoom, Check, check, checked}
 
 -- the check of this number is the first whose test holds
 pub data Refuses : List Check → ℕ → Type 0 where
@@ -29,20 +29,33 @@ unfolding checked
 clears answer done = refl
 clears answer (next e c) = rw e (clears answer c)
 
--- where something is given, it is the answer behind the checks, and the last of them did not hold
-pub given-is : {A : Type 0} (cs : List Check) (a b : A) → checked cs (given a) ≡ given b → a ≡ b
+-- where no number is given, no test held, and what was given is the answer behind the checks
+pub passes : {A : Type 0} (cs : List Check) (a b : Answer A) → ((k : ℕ) → b ≡ refused k → ⊥) → checked cs a ≡ b
+    → Clear cs × (a ≡ b)
 unfolding checked
-given-is [] a b e = cc
-given-is (check true n ∷ cs) a b e = let z : _≡_ {A = ℕ} 0 1 = cc in absurd (let f : ⊥ = omega arith in f)
-given-is (check false n ∷ cs) a b e = given-is cs a b e
+passes [] a b n e = (done, e)
+passes (check true k ∷ cs) a b n e = absurd (n k (sym e))
+passes (check false k ∷ cs) a b n e = let r = passes cs a b n e in (next refl (r .0), r .1)
 
-pub given-clear : {A : Type 0} (cs : List Check) (test : Bool) (n : ℕ) (a b : A)
-    → checked (cs ++ check test n ∷ []) (given a) ≡ given b → test ≡ false
-unfolding checked
-given-clear [] true n a b e = let z : _≡_ {A = ℕ} 0 1 = cc in absurd (let f : ⊥ = omega arith in f)
-given-clear [] false n a b e = refl
-given-clear (check true k ∷ cs) test n a b e = let z : _≡_ {A = ℕ} 0 1 = cc in absurd (let f : ⊥ = omega arith in f)
-given-clear (check false k ∷ cs) test n a b e = given-clear cs test n a b e
+pub clear-last : (cs : List Check) (test : Bool) (n : ℕ) → Clear (cs ++ check test n ∷ []) → test ≡ false
+clear-last [] test n (next e c) = e
+clear-last (check t k ∷ cs) test n (next e c) = clear-last cs test n c
+
+-- what is given is no refusal by a number, and neither is 5
+pub given-no : {A : Type 0} (a : A) (k : ℕ) → given a ≡ refused k → ⊥
+given-no a k e = let z : _≡_ {A = ℕ} 0 1 = cc in omega arith
+
+pub needs-no : {A : Type 0} (n k : ℕ) → _≡_ {A = Answer A} (needs n) (refused k) → ⊥
+needs-no n k e = let z : _≡_ {A = ℕ} 0 1 = cc in omega arith
+
+-- a refusal stands, whatever would be made of what is given
+pub refused-stands : {A B : Type 0} (f : A → Answer B) (k : ℕ) → andThen (refused k) f ≡ refused k
+unfolding andThen
+refused-stands f k = refl
+
+pub needs-stands : {A B : Type 0} (f : A → Answer B) (n : ℕ) → andThen (needs n) f ≡ needs n
+unfolding andThen
+needs-stands f n = refl
 
 -- 2
 pub long : (bytes : List ℕ) → mostBytes < length bytes → tooLong bytes ≡ true
@@ -61,6 +74,10 @@ past place bytes h = lt-ltb (length bytes) place h
 pub not-past : (place : ℕ) (bytes : List ℕ) → place ≤ length bytes → pastEnd place bytes ≡ false
 unfolding pastEnd
 not-past place bytes h = le-ltb (length bytes) place h
+
+pub place-within : (place : ℕ) (bytes : List ℕ) → pastEnd place bytes ≡ false → place ≤ length bytes
+unfolding pastEnd
+place-within place bytes e = ltb-false (length bytes) place e
 
 -- 6
 pub pad-code : (code : ℕ) → code ≡ padCode → noCode code ≡ true

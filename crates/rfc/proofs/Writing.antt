@@ -1,6 +1,6 @@
 -- The laws of `specs/Writing.antt`: the bytes of a value, and each writer by its checks.
 -- Assumes nothing.
-use mathlib.Core.Path.{_≡_, refl, sym, ap}
+use mathlib.Core.Path.{_≡_, refl, ap}
 use Prim.Native.Nat.{ℕ, _+_, _-_, _*_, _/_, _≤_, _<_}
 use native.Mathlib.Omega.{arith}
 use mathlib.Core.List.{List, [], _∷_, _++_, flatten}
@@ -10,7 +10,7 @@ use Rattle.facts.specs.Pieces.{pieces}
 use Rattle.facts.proofs.Pieces.{pieces-none, pieces-more, flatten-pieces, count-pieces}
 use Rattle.rfc.specs.Numbers.{Answer, given, refused, mostBytes, mostValue, mostPart, padCode, endCode, noRoom}
 use Rattle.rfc.specs.Writing.{partsOf, encode, Write, writeChecks, answerTo, roomLeft, roomAfter, writeSlice, writeBytes, close}
-use Rattle.rfc.proofs.Numbers.{Refuses, here, later, refuses, Clear, done, next, clears, given-is, given-clear, long, not-long, past, not-past, pad-code, end-code, a-code, much, not-much, full, not-full, room-left}
+use Rattle.rfc.proofs.Numbers.{Refuses, here, later, refuses, Clear, done, next, clears, passes, clear-last, given-no, long, not-long, past, not-past, pad-code, end-code, a-code, much, not-much, full, not-full, room-left}
 
 -- two bytes for each part
 pub length-parts : (code : ℕ) (ps : List (List ℕ)) → length (partsOf code ps) ≡ 2 * length ps + length (flatten ps)
@@ -54,12 +54,15 @@ module _ (w : Write) (room : List ℕ) (place : ℕ) where
 
   pub given-to : (to : ℕ) → answerTo w room place ≡ given to → to ≡ place + length (w .bytes)
   unfolding answerTo
-  given-to to e = sym (given-is (writeChecks w room place) (place + length (w .bytes)) to e)
+  given-to to e =
+      let r = passes (writeChecks w room place) (given (place + length (w .bytes))) (given to) (given-no to) e .1 in
+      cc
 
   pub given-fits : (to : ℕ) → answerTo w room place ≡ given to → place + length (w .bytes) ≤ length room
   unfolding answerTo writeChecks
   given-fits to e =
-      room-left room place (w .bytes) (given-clear (w .checks) (noRoom room place (w .bytes)) 8 (place + length (w .bytes)) to e)
+      let c = passes (writeChecks w room place) (given (place + length (w .bytes))) (given to) (given-no to) e .0 in
+      room-left room place (w .bytes) (clear-last (w .checks) (noRoom room place (w .bytes)) 8 c)
 
 -- some bytes as they stand
 module _ (bytes room : List ℕ) (place : ℕ) where

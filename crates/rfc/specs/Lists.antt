@@ -5,7 +5,7 @@ use mathlib.Core.Path.{_≡_}
 use mathlib.Core.List.{List, [], _∷_, _++_}
 use lib.ListN.{length}
 use Rattle.rfc.specs.Numbers.{Answer, given, refused, needs, andThen, mostValue, mostPart, endCode}
-use Rattle.rfc.specs.Walk.{Found, stop, option, step}
+use Rattle.rfc.specs.Walk.{Stop, Found, stop, option, step}
 use Rattle.rfc.specs.Writing.{encode, Write, answerTo, roomAfter, writeBytes, close}
 
 -- an option of a list
@@ -75,6 +75,13 @@ unfoldable pub listIn : ℕ → List ℕ → ℕ → ℕ → Listing
 listIn zero area room place = record { options = []; ending = step area place room }
 listIn (suc k) area room place = onward (step area place room) (listIn k area room)
 
--- from the area's front; an option takes two bytes or more, so no area has more options than bytes
+-- from the area's front. An option takes two bytes or more, so no area has more options than bytes, and the listing ends with an answer that
+-- is no option (`Ending`, proved of every listing)
 unfoldable pub listing : List ℕ → ℕ → Listing
 listing area room = listIn (length area) area room 0
+
+-- an answer that is no option
+pub data Ending : Answer Found → Type 0 where
+  atStop : (s : Stop) (at : ℕ) → Ending (given (stop s at))
+  atNumber : (k : ℕ) → Ending (refused k)
+  atNeeds : (n : ℕ) → Ending (needs n)
