@@ -4,3 +4,4 @@ pub mod Ranges
 pub mod Table
 pub mod BigEndian
 pub mod Unique
+pub mod Signs

@@ -51,3 +51,20 @@ module _ {A : Type 0} (other : A) (low high n : ℕ) (from : low ≤ n) (to : n 
   one-answer [] answer e = cc
   one-answer (row l h a ∷ rows) answer e =
       step l h a answer rows (one-answer rows answer) (ltb h low) (ltb high l) (leb l low) (leb high h) refl refl refl refl e
+
+-- whether every answer is below a number
+abbrev pub allBelow : ℕ → ℕ → List (Row ℕ) → Bool
+allBelow most other [] = ltb other most
+allBelow most other (row l h answer ∷ rows) = ltb answer most && allBelow most other rows
+
+-- then so is the answer to any number
+pub all-rows : (most other : ℕ) (rows : List (Row ℕ)) (n : ℕ) → allBelow most other rows ≡ true → lookup other rows n < most
+unfolding lookup
+all-rows most other [] n e = ltb-true other most e
+all-rows most other (row l h a ∷ rows) n e = go (ltb a most) refl e (all-rows most other rows n) (within l h n)
+  where
+    go : (t : Bool) → ltb a most ≡ t → (t && allBelow most other rows) ≡ true → (allBelow most other rows ≡ true → lookup other rows n < most)
+        → (u : Bool) → cond u a (lookup other rows n) < most
+    go true p q more true = ltb-true a most p
+    go true p q more false = more q
+    go false p q more u = let z : _≡_ {A = ℕ} 0 1 = cc in absurd (omega arith)

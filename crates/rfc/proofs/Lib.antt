@@ -5,5 +5,6 @@ pub mod Writing
 pub mod Parts
 pub mod Lists
 pub mod Fewest
+pub mod Codes
 pub mod Values
 pub mod Endings

@@ -1,0 +1,19 @@
+-- The laws of `specs/Kinds.antt`: which numbers are kinds, and the sizes of what is no kind.
+-- Assumes nothing.
+use mathlib.Core.Path.{_≡_, refl}
+use Prim.Native.Nat.{ℕ, _≤_, _<_}
+use lib.Dec.{lit<}
+use lib.ListN.{List·getD-eq-default}
+use Rattle.facts.specs.Ranges.{Row, lookup}
+use Rattle.facts.proofs.Ranges.{all-rows}
+use Rattle.rfc.specs.Kinds.{kinds, kindOf, sizes, sizeOf}
+
+-- a kind is a number from 0 to 15
+pub kind-below : (code : ℕ) → kindOf code < 16
+unfolding kindOf kinds
+kind-below code = all-rows 16 0 kinds code refl
+
+-- what is no kind has elements of no bytes
+pub size-past : (kind : ℕ) → 16 ≤ kind → sizeOf kind ≡ 0
+unfolding sizeOf sizes
+size-past kind h = List·getD-eq-default sizes 0 h
