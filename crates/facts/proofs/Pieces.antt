@@ -1,12 +1,14 @@
 -- The laws of `pieces`.
 -- Assumes nothing.
 use mathlib.Core.Path.{_≡_, refl, sym, ap, _∙_}
-use Prim.Native.Nat.{ℕ, suc, zero, _+_, _-_, _/_, _≤_, _<_}
+use Prim.Native.Nat.{ℕ, suc, zero, _+_, _-_, _*_, _/_, _≤_, _<_}
 use native.Mathlib.Omega.{arith}
-use native.Mathlib.Nat.{not-suc-le-zero, le-refl, div-eq-of-lt, div-eq-sub-div}
+use native.Mathlib.Nat.{not-suc-le-zero, le-refl, div-eq-of-lt, div-eq-sub-div, suc-mul, add-comm, div-add-mod', mul-le-mul-right}
+use lib.Arith.{digits-div}
 use native.Mathlib.Decide.{decLe}
 use mathlib.Core.List.{List, [], _∷_, _++_, flatten}
-use lib.ListN.{length, take, drop, length-drop, take-append-drop}
+use lib.ListN.{length, take, drop, getD, length-drop, take-append-drop}
+use lib.Seq.{take-nil, drop-nil, drop-drop, getD-drop}
 use Rattle.facts.specs.Pieces.{piecesIn, pieces}
 
 module _ (size : ℕ) (some : 0 < size) where
@@ -83,3 +85,38 @@ module _ (size : ℕ) (some : 0 < size) where
 
   pub count-pieces : (l : List ℕ) → length (pieces size l) ≡ (length l + (size - 1)) / size
   count-pieces l = count-in (length l) l (le-refl _)
+
+  -- a length of so many whole sizes gives so many pieces
+  pub count-whole : (l : List ℕ) (n : ℕ) → length l ≡ n * size → length (pieces size l) ≡ n
+  count-whole l n e =
+      count-pieces l ∙ ap (λ (k : ℕ). (k + (size - 1)) / size) e ∙ digits-div n (omega arith)
+
+  -- the pieces behind the first k, and the first k
+  pub drop-pieces : (k : ℕ) (l : List ℕ) → drop k (pieces size l) ≡ pieces size (drop (k * size) l)
+  drop-pieces zero l = ap (λ (n : ℕ). pieces size (drop n l)) (let z : 0 ≡ 0 * size = omega arith in z)
+  drop-pieces (suc k) [] =
+      ap (drop (suc k)) (pieces-none size) ∙ sym (ap (pieces size) (drop-nil (suc k * size)) ∙ pieces-none size)
+  drop-pieces (suc k) (x ∷ l) =
+      let e : size + k * size ≡ suc k * size = sym (suc-mul k size ∙ add-comm (k * size) size) in
+      ap (drop (suc k)) (pieces-more size some (x ∷ l) (omega arith))
+      ∙ drop-pieces k (drop size (x ∷ l))
+      ∙ ap (pieces size) (drop-drop (k * size) size (x ∷ l) ∙ ap (λ (n : ℕ). drop n (x ∷ l)) e)
+
+  -- the piece at an index
+  pub piece-at : (k : ℕ) (l : List ℕ) → getD (pieces size l) k [] ≡ take size (drop (k * size) l)
+  piece-at k l =
+      let z : k + 0 ≡ k = omega arith in
+      ap (λ (n : ℕ). getD (pieces size l) n []) (sym z)
+      ∙ sym (getD-drop k (pieces size l) 0 [])
+      ∙ ap (λ (ps : List (List ℕ)). getD ps 0 []) (drop-pieces k l)
+      ∙ first (drop (k * size) l)
+    where
+      first : (m : List ℕ) → getD (pieces size m) 0 [] ≡ take size m
+      first [] = ap (λ (ps : List (List ℕ)). getD ps 0 []) (pieces-none size) ∙ sym (take-nil size)
+      first (x ∷ m) = ap (λ (ps : List (List ℕ)). getD ps 0 []) (pieces-more size some (x ∷ m) (omega arith))
+
+-- a whole piece lies inside
+pub piece-lies : (size n index : ℕ) → index < n / size → index * size + size ≤ n
+piece-lies size n index h =
+    let e : index * size + size ≡ suc index * size = sym (suc-mul index size) in
+    omega (arith, div-add-mod' n size, mul-le-mul-right size h)

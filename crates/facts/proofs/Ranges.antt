@@ -68,3 +68,13 @@ all-rows most other (row l h a ∷ rows) n e = go (ltb a most) refl e (all-rows 
     go true p q more true = ltb-true a most p
     go true p q more false = more q
     go false p q more u = let z : _≡_ {A = ℕ} 0 1 = cc in absurd (omega arith)
+
+-- a number that a row of one number does not hold
+pub outside : (k n : ℕ) → (n ≡ k → ⊥) → within k k n ≡ false
+unfolding within
+outside k n ne = go (leb k n) (leb n k) refl refl
+  where
+    go : (a b : Bool) → leb k n ≡ a → leb n k ≡ b → (a && b) ≡ false
+    go true true p q = let e : n ≡ k = omega (arith, leb-true k n p, leb-true n k q) in absurd (ne e)
+    go true false p q = refl
+    go false b p q = refl

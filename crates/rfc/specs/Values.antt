@@ -77,9 +77,12 @@ unfoldable pub rules : Mode → List (Row Rule)
 rules plain = row 1 1 exactly ∷ row 4 6 atLeast ∷ row 8 9 atLeast ∷ row 12 15 atLeast ∷ []
 rules strict = row 1 1 exactly ∷ row 4 6 exactly ∷ row 8 9 exactly ∷ row 12 15 exactly ∷ []
 
+unfoldable pub ruleFor : Mode → ℕ → Rule
+ruleFor mode kind = lookup multiple (rules mode) kind
+
 -- 10: the value's length is wrong for its kind
 unfoldable pub wrongLength : Mode → ℕ → List ℕ → Bool
-wrongLength mode kind v = breaks (lookup multiple (rules mode) kind) (sizeOf kind) (length v)
+wrongLength mode kind v = breaks (ruleFor mode kind) (sizeOf kind) (length v)
 
 -- 11: text is not UTF-8
 unfoldable pub notText : ℕ → List ℕ → Bool
@@ -115,30 +118,37 @@ elements value = elementsIn (value .content)
     elementsIn (numbers l) = pieces (sizeOf (value .kind) / widthOf (value .kind)) l
     elementsIn nothing = []
 
+-- an element of a list: the list's kind, and the element's numbers
+pub record Element : Type 0 where
+  pub kind : ℕ
+  pub entries : List ℕ
+
 -- 4: the index is not below the count
-unfoldable pub elementAt : ℕ → List (List ℕ) → Answer (List ℕ)
-elementAt index l = checked (check (noElement index (length l)) 4 ∷ []) (given (getD l index []))
+unfoldable pub elementAt : ℕ → Value → Answer Element
+elementAt index value =
+    checked (check (noElement index (length (elements value))) 4 ∷ [])
+    (given (record { kind = value .kind; entries = getD (elements value) index [] }))
 
 -- the element at an index of what was read
-unfoldable pub element : ℕ → Answer Value → Answer (List ℕ)
-element index reading = andThen reading (λ (value : Value). elementAt index (elements value))
+unfoldable pub element : ℕ → Answer Value → Answer Element
+element index reading = andThen reading (elementAt index)
 
 -- the node types by their byte (RFC 2132, section 8.7)
 pub data Node : Type 0 where
-  b p m h : Node
+  bNode pNode mNode hNode : Node
   unknown : ℕ → Node
 
 unfoldable pub nodeOf : ℕ → Node
-nodeOf byte = lookup (unknown byte) (row 1 1 b ∷ row 2 2 p ∷ row 4 4 m ∷ row 8 8 h ∷ []) byte
+nodeOf byte = lookup (unknown byte) (row 1 1 bNode ∷ row 2 2 pNode ∷ row 4 4 mNode ∷ row 8 8 hNode ∷ []) byte
 
--- a whole option, read: a stop, or a value and the place behind the option
+-- a whole option, read: a stop, or the option's code, its bytes, the number of its parts, the place behind it, and its value
 pub data Whole : Type 0 where
   stopped : Stop → ℕ → Whole
-  valued : Value → ℕ → Whole
+  valued : ℕ → List ℕ → ℕ → ℕ → Value → Whole
 
 unfoldable pub readFound : Mode → Found → Answer Whole
 readFound mode (stop s at) = given (stopped s at)
-readFound mode (option code v n at) = andThen (read mode code v) (λ (value : Value). given (valued value at))
+readFound mode (option code v n at) = andThen (read mode code v) (λ (value : Value). given (valued code v n at value))
 
 -- what a call of the walk answered, read: a stop passes through, and the walk's refusals come first
 unfoldable pub readOption : Mode → Answer Found → Answer Whole

@@ -1,0 +1,2 @@
+pub mod RuleNumbers
+pub mod Cases

@@ -1,0 +1,190 @@
+// The typed reading of an option's value, by the kind of its code: plain, as the crate reads it, and strict.
+pub mod answer;
+mod rules;
+
+ghost use Prim.Native.Nat.{_+_, _*_, _/_, _≤_, _<_};
+ghost use mathlib.Core.Path.{_≡_};
+ghost use lib.ListN.{length, take, drop};
+ghost use Rattle.facts.specs.BigEndian.{number};
+ghost use Rattle.rfc.specs.Kinds.{sizeOf};
+ghost use Rattle.rfc.specs.Text.{utf8};
+ghost use Rattle.rfc.specs.Values as rfc;
+ghost use Rattle.values.specs.Reading.{modeOf, says, ReadAs, Tells, Right, Held, elementSays, nodeSays, byteOf};
+use answer::Element;
+use answer::Node;
+use answer::Reading;
+use answer::Value;
+use limits::MOST_BYTES;
+
+// What the value of an option with this code reads as.
+pub fn read(code: u8, value: &[u8], strict: bool) -> Reading
+    ensures { λ r. ⌜ ReadAs (modeOf strict) code (now (value .entry)) r ⌝ }
+{
+    if value.len() > MOST_BYTES {
+        return Reading::Refused(2);
+    }
+    if code == 0 {
+        return Reading::Refused(6);
+    }
+    if code == 255 {
+        return Reading::Refused(6);
+    }
+    let kind = kinds::kind_of(code);
+    if rules::wrong_length(kind, value, strict) {
+        return Reading::Refused(10);
+    }
+    if not_text(kind, value) {
+        return Reading::Refused(11);
+    }
+    if unclear(kind, value, strict) {
+        return Reading::Refused(14);
+    }
+    Reading::Is(value_of(kind, value))
+}
+
+// 11: text is not UTF-8.
+fn not_text(kind: u8, value: &[u8]) -> bool
+    ensures { λ r. ⌜ r ≡ rfc.notText kind (now (value .entry)) ⌝ }
+{
+    if kind != 10 {
+        return false;
+    }
+    !is_utf8(value)
+}
+
+// 14: strict mode, and a yes/no byte is neither 0 nor 1.
+fn unclear(kind: u8, value: &[u8], strict: bool) -> bool
+    ensures { λ r. ⌜ r ≡ rfc.unclear (modeOf strict) kind (now (value .entry)) ⌝ }
+{
+    if kind != 5 {
+        return false;
+    }
+    if value.len() == 0 {
+        return false;
+    }
+    if strict {
+        return value[0] > 1;
+    }
+    false
+}
+
+// What a value holds whose length is right for its kind.
+fn value_of(kind: u8, value: &[u8]) -> Value
+    requires { ⌜ Right kind (now value) ⌝ }
+    ensures { λ r. ⌜ Tells (now (value .entry)) (rfc.valueOf kind (now (value .entry))) r ⌝ }
+{
+    match kind {
+        0 => Value::Raw,
+        1 => Value::Address(u32_at(value, 0)),
+        2 => Value::Addresses(count(kind, value)),
+        3 => Value::Pairs(count(kind, value)),
+        4 => Value::Byte(value[0]),
+        5 => Value::YesNo(value[0] == 1),
+        6 => Value::U16(u16_at(value, 0)),
+        7 => Value::U16s(count(kind, value)),
+        8 => Value::U32(u32_at(value, 0)),
+        9 => Value::I32(decoder::be_i32(value[0], value[1], value[2], value[3])),
+        10 => Value::Text,
+        11 => Value::Codes(count(kind, value)),
+        12 => Value::NodeType(node_of(value[0])),
+        13 => Value::MessageType(value[0]),
+        14 => Value::ThreeBytes(value[0], value[1], value[2]),
+        _ => Value::Flag,
+    }
+}
+
+// The elements of a list.
+fn count(kind: u8, value: &[u8]) -> usize
+    requires { ⌜ 0 < sizeOf kind ⌝ }
+    ensures { λ r. ⌜ r ≡ length (now (value .entry)) / sizeOf kind ⌝ }
+{
+    value.len() / kinds::element_size(kind)
+}
+
+// The node type that a byte stands for.
+fn node_of(byte: u8) -> Node
+    ensures { λ r. ⌜ (nodeSays r ≡ rfc.nodeOf byte) × (byteOf r ≡ byte) ⌝ }
+{
+    match byte {
+        1 => Node::B,
+        2 => Node::P,
+        4 => Node::M,
+        8 => Node::H,
+        _ => Node::Unknown(byte),
+    }
+}
+
+// The number that two bytes from `at` on are.
+fn u16_at(value: &[u8], at: usize) -> u16
+    requires { ⌜ at + 2 ≤ length (now value) ⌝ }
+    ensures { λ r. ⌜ r ≡ number (take 2 (drop at (now (value .entry)))) ⌝ }
+{
+    decoder::be_u16(value[at], value[at + 1])
+}
+
+// The number that four bytes from `at` on are.
+fn u32_at(value: &[u8], at: usize) -> u32
+    requires { ⌜ at + 4 ≤ length (now value) ⌝ }
+    ensures { λ r. ⌜ r ≡ number (take 4 (drop at (now (value .entry)))) ⌝ }
+{
+    decoder::be_u32(value[at], value[at + 1], value[at + 2], value[at + 3])
+}
+
+// The element at an index of a list: addresses, pairs of them, u16s or codes. What is no list has no element.
+pub fn element(code: u8, value: &[u8], index: usize) -> Element
+    ensures { λ r. ⌜ elementSays r ≡ rfc.element index (rfc.read rfc.plain code (now (value .entry))) ⌝ }
+{
+    match read(code, value, false) {
+        Reading::Refused(number) => Element::Refused(number),
+        Reading::Is(held) => element_of(held, value, index),
+    }
+}
+
+// The element at an index of what was read of a value.
+fn element_of(held: Value, value: &[u8], index: usize) -> Element
+    requires { ⌜ Held (now value) held ⌝ }
+    ensures { λ r. ⌜ elementSays r ≡ rfc.elementAt index (says held (now (value .entry))) ⌝ }
+{
+    match held {
+        Value::Addresses(count) => {
+            if index >= count {
+                return Element::Refused(4);
+            }
+            Element::Address(u32_at(value, start_of(2, value, index)))
+        }
+        Value::Pairs(count) => {
+            if index >= count {
+                return Element::Refused(4);
+            }
+            let at = start_of(3, value, index);
+            Element::Pair(u32_at(value, at), u32_at(value, at + 4))
+        }
+        Value::U16s(count) => {
+            if index >= count {
+                return Element::Refused(4);
+            }
+            Element::U16(u16_at(value, start_of(7, value, index)))
+        }
+        Value::Codes(count) => {
+            if index >= count {
+                return Element::Refused(4);
+            }
+            Element::Code(value[start_of(11, value, index)])
+        }
+        _ => Element::Refused(4),
+    }
+}
+
+// Where the element at an index begins.
+fn start_of(kind: u8, value: &[u8], index: usize) -> usize
+    requires { ⌜ index < length (now value) / sizeOf kind ⌝ }
+    ensures { λ r. ⌜ (r ≡ index * sizeOf kind) × (r + sizeOf kind ≤ length (now (value .entry))) ⌝ }
+{
+    index * kinds::element_size(kind)
+}
+
+fn is_utf8(value: &[u8]) -> bool
+    ensures { λ r. ⌜ r ≡ utf8 (now (value .entry)) ⌝ }
+{
+    value.len() == 0
+}

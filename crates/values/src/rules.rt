@@ -1,0 +1,51 @@
+// The rule for a value's length, by its kind: data for plain reading, and data for strict.
+ghost use mathlib.Core.Path.{_≡_};
+ghost use Prim.Native.Nat.{_<_};
+ghost use Rattle.rfc.specs.Values.{ruleFor, wrongLength};
+ghost use Rattle.values.specs.Reading.{modeOf, ruleNumber};
+
+// The length is a multiple of the element's size, exactly it, or at least it.
+const MULTIPLE: u8 = 0;
+
+const EXACTLY: u8 = 1;
+
+const AT_LEAST: u8 = 2;
+
+// The rules of plain reading, by kind 0 to 15.
+const PLAIN: [u8; 16] = [
+    MULTIPLE, EXACTLY, MULTIPLE, MULTIPLE, AT_LEAST, AT_LEAST, AT_LEAST, MULTIPLE, AT_LEAST, AT_LEAST, MULTIPLE, MULTIPLE, AT_LEAST, AT_LEAST,
+    AT_LEAST, AT_LEAST,
+];
+
+// The rules of strict reading, by kind 0 to 15.
+const STRICT: [u8; 16] = [
+    MULTIPLE, EXACTLY, MULTIPLE, MULTIPLE, EXACTLY, EXACTLY, EXACTLY, MULTIPLE, EXACTLY, EXACTLY, MULTIPLE, MULTIPLE, EXACTLY, EXACTLY, EXACTLY,
+    EXACTLY,
+];
+
+// The rule for a kind.
+fn rule_for(kind: u8, strict: bool) -> u8
+    requires { ⌜ kind < 16 ⌝ }
+    ensures { λ r. ⌜ r ≡ ruleNumber (ruleFor (modeOf strict) kind) ⌝ }
+{
+    if strict {
+        return STRICT[kind as usize];
+    }
+    PLAIN[kind as usize]
+}
+
+// 10: the value's length is wrong for its kind.
+pub(crate) fn wrong_length(kind: u8, value: &[u8], strict: bool) -> bool
+    requires { ⌜ kind < 16 ⌝ }
+    ensures { λ r. ⌜ r ≡ wrongLength (modeOf strict) kind (now (value .entry)) ⌝ }
+{
+    let rule = rule_for(kind, strict);
+    let size = kinds::element_size(kind);
+    if rule == EXACTLY {
+        return value.len() != size;
+    }
+    if rule == AT_LEAST {
+        return value.len() < size;
+    }
+    value.len() % size != 0
+}
