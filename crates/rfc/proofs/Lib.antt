@@ -7,3 +7,4 @@ pub mod Lists
 pub mod Fewest
 pub mod Values
 pub mod Endings
+pub mod Text
