@@ -11,6 +11,11 @@ use borrow.Author.Tests.{le-leb, lt-leb, leb-true, ltb-true}
 use lib.Dec.{leb, ltb}
 use Rattle.facts.specs.Ranges.{Row, row, lookup, within}
 
+-- the two tests of a range
+pub tests : (low high n : ℕ) → (leb low n && leb n high) ≡ within low high n
+unfolding within
+tests low high n = refl
+
 -- the one answer from low to high, or none where the rows part them. (The rows that are left are named once: named twice, the work of
 -- computing this would double with each row.)
 abbrev pub uniform : {A : Type 0} → A → List (Row A) → ℕ → ℕ → Option A

@@ -119,6 +119,13 @@ listed-size pairs = (refl, lit< tt, lit< tt)
 listed-size u16s = (refl, lit< tt, lit< tt)
 listed-size codes = (refl, lit< tt, lit< tt)
 
+pub listed-some : {kind width n : ℕ} → Listed kind width n → 0 < sizeOf kind
+unfolding sizeOf sizes
+listed-some addresses = lit< tt
+listed-some pairs = lit< tt
+listed-some u16s = lit< tt
+listed-some codes = lit< tt
+
 listed-elements : {kind width n : ℕ} → Listed kind width n → (l : List ℕ) → elements (value kind (numbers l)) ≡ pieces n l
 unfolding elements sizeOf sizes widthOf lookup within
 listed-elements addresses l = refl

@@ -1,7 +1,8 @@
 -- What each kind's case tells of a value whose length is right.
 -- Assumes nothing.
 use mathlib.Core.Path.{_≡_, sym, ap, _∙_, subst}
-use Prim.Native.Nat.{ℕ, _/_, _≤_, _<_}
+use Prim.Native.Nat.{ℕ, _+_, _*_, _/_, _≤_, _<_}
+use mathlib.Core.Bool.{false}
 use mathlib.Core.List.{List, []}
 use native.Mathlib.Omega.{arith}
 use lib.ListN.{length, take, getD}
@@ -10,7 +11,7 @@ use Rattle.facts.proofs.Cells.{part-cells}
 use Rattle.rfc.specs.Kinds.{sizeOf}
 use Rattle.rfc.specs.Values as rfc
 use Rattle.rfc.specs.Values.{numbers, numbersOf, plain, wrongLength, valueOf, elements}
-use Rattle.rfc.proofs.Values.{value, Scalar, holds, Listed, scalar-value, scalar-fits, listed-value, listed-size, listed-count}
+use Rattle.rfc.proofs.Values.{value, Scalar, holds, Listed, scalar-value, scalar-fits, listed-value, listed-some, listed-count}
 use Rattle.values.specs.Reading.{says, Exact, Tells, Right}
 use Rattle.values.specs.declared.answer.Value.{Value}
 
@@ -37,7 +38,7 @@ module _ (kind : ℕ) (v : List ℕ) (right : Right kind v) {k : ℕ} (is : kind
 
   module _ {width n : ℕ} (l : Listed k width n) where
     pub some-size : 0 < sizeOf kind
-    some-size = let e = ap sizeOf is in let s = listed-size l in omega arith
+    some-size = subst (λ (j : ℕ). 0 < sizeOf j) (sym is) (listed-some l)
 
     pub counted : (count : ℕ) → count ≡ length v / sizeOf kind → count ≡ length (elements (value k (numbers (numbersOf width v))))
     counted count e =

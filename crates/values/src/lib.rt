@@ -7,7 +7,6 @@ ghost use mathlib.Core.Path.{_≡_};
 ghost use lib.ListN.{length, take, drop};
 ghost use Rattle.facts.specs.BigEndian.{number};
 ghost use Rattle.rfc.specs.Kinds.{sizeOf};
-ghost use Rattle.rfc.specs.Text.{utf8};
 ghost use Rattle.rfc.specs.Values as rfc;
 ghost use Rattle.values.specs.Reading.{modeOf, says, ReadAs, Tells, Right, Held, elementSays, nodeSays, byteOf};
 use answer::Element;
@@ -49,7 +48,7 @@ fn not_text(kind: u8, value: &[u8]) -> bool
     if kind != 10 {
         return false;
     }
-    !is_utf8(value)
+    !text::is_utf8(value)
 }
 
 // 14: strict mode, and a yes/no byte is neither 0 nor 1.
@@ -181,10 +180,4 @@ fn start_of(kind: u8, value: &[u8], index: usize) -> usize
     ensures { λ r. ⌜ (r ≡ index * sizeOf kind) × (r + sizeOf kind ≤ length (now (value .entry))) ⌝ }
 {
     index * kinds::element_size(kind)
-}
-
-fn is_utf8(value: &[u8]) -> bool
-    ensures { λ r. ⌜ r ≡ utf8 (now (value .entry)) ⌝ }
-{
-    value.len() == 0
 }
