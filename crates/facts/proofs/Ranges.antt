@@ -5,7 +5,7 @@ use mathlib.Core.Path.{_≡_, refl, ap}
 use mathlib.Core.Bool.{Bool, true, false, cond, _&&_, _||_}
 use mathlib.Core.List.{List, [], _∷_}
 use mathlib.Core.Option.{Option, none, some}
-use Prim.Native.Nat.{ℕ, _≤_, _<_}
+use Prim.Native.Nat.{ℕ, zero, suc, _≤_, _<_}
 use native.Mathlib.Omega.{arith}
 use borrow.Author.Tests.{le-leb, lt-leb, leb-true, ltb-true}
 use lib.Dec.{leb, ltb}
@@ -83,3 +83,15 @@ outside k n ne = go (leb k n) (leb n k) refl refl
     go true true p q = let e : n ≡ k = omega (arith, leb-true k n p, leb-true n k q) in absurd (ne e)
     go true false p q = refl
     go false b p q = refl
+
+-- a number that is none of the first i, as the last arm of a match on 0, 1 and so on has it
+abbrev pub NoneOf : ℕ → ℕ → Type 0
+NoneOf n zero = Unit {0}
+NoneOf n (suc i) = NoneOf n i × (n ≡ i → ⊥)
+
+pub beyond : (n i : ℕ) → NoneOf n i → i ≤ n
+beyond n zero none-of = omega arith
+beyond n (suc i) none-of =
+    let h = beyond n i (none-of .0) in
+    let other = none-of .1 in
+    omega arith

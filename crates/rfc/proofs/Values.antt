@@ -7,7 +7,7 @@ use mathlib.Core.List.{List, [], _∷_, map}
 use native.Mathlib.Omega.{arith}
 use native.Mathlib.Nat.{div-add-mod', mul-assoc}
 use native.Mathlib.Decide.{decLe}
-use borrow.Author.Tests.{le-leb, le-ltb, ltb-true, ltb-false, eqb-true, eq-eqb, ne-eqb}
+use borrow.Author.Tests.{lt-leb, le-leb, le-ltb, ltb-true, ltb-false, eqb-true, eq-eqb, ne-eqb}
 use lib.Dec.{eqb, ltb, lit<}
 use lib.ListN.{length, take, drop, getD, List·getD-map, List·getD-eq-default, length-map}
 use lib.Seq.{drop-cons}
@@ -17,12 +17,12 @@ use Rattle.facts.specs.Ranges.{lookup, within}
 use Rattle.facts.proofs.Pieces.{piece-at, count-whole}
 use Rattle.facts.proofs.Ranges.{outside}
 use Rattle.facts.proofs.Table.{each}
-use Rattle.rfc.specs.Numbers.{Answer, given, refused, needs, checked, noElement}
+use Rattle.rfc.specs.Numbers.{Answer, given, refused, needs, mostBytes, andThen, checked, noElement, noCode}
 use Rattle.rfc.specs.Walk.{Found}
 use Rattle.rfc.specs.Kinds.{kindOf, sizeOf, sizes}
 use Rattle.rfc.specs.Text.{utf8}
 use Rattle.rfc.specs.Values.{Content, raw, natural, integer, truth, numbers, nothing, Value, numbersOf, widthOf, contents, valueOf, Rule, exactly, atLeast, multiple, breaks, Mode, plain, strict, rules, ruleFor, wrongLength, notText, unclear, readChecks, read, elements, elementAt, element, nodeOf, bNode, pNode, mNode, hNode, unknown, readOption}
-use Rattle.rfc.proofs.Numbers.{Clear, done, next, clears, passes, given-no, refused-stands, needs-stands}
+use Rattle.rfc.proofs.Numbers.{Refuses, here, later, refuses, Clear, done, next, clears, passes, long, not-long, given-no, refused-stands, needs-stands}
 
 -- a value by its kind and what it holds
 abbrev pub value : ℕ → Content → Value
@@ -64,6 +64,10 @@ pub data Listed : ℕ → ℕ → ℕ → Type 0 where
   codes : Listed 11 1 1
 
 module _ (v : List ℕ) where
+  pub kind-kept : (kind : ℕ) → valueOf kind v .kind ≡ kind
+  unfolding valueOf
+  kind-kept kind = refl
+
   pub raw-value : valueOf 0 v ≡ value 0 (raw v)
   unfolding valueOf contents lookup within
   raw-value = refl
@@ -76,6 +80,14 @@ module _ (v : List ℕ) where
   unfolding valueOf contents lookup within
   flag-value = refl
 
+  pub raw-single : (kind : ℕ) → length (elements (value kind (raw v))) ≡ 0
+  unfolding elements
+  raw-single kind = refl
+
+  pub flag-single : (kind : ℕ) → length (elements (value kind nothing)) ≡ 0
+  unfolding elements
+  flag-single kind = refl
+
   pub scalar-value : {kind size : ℕ} (k : Scalar kind size) → valueOf kind v ≡ value kind (holds k v)
   unfolding valueOf contents lookup within sizeOf sizes
   scalar-value address = refl
@@ -87,6 +99,19 @@ module _ (v : List ℕ) where
   scalar-value nodeType = refl
   scalar-value messageType = refl
   scalar-value threeBytes = refl
+
+  -- none of these is a list
+  pub scalar-single : {kind size : ℕ} (k : Scalar kind size) → length (elements (value kind (holds k v))) ≡ 0
+  unfolding elements
+  scalar-single address = refl
+  scalar-single byte = refl
+  scalar-single yesNo = refl
+  scalar-single u16 = refl
+  scalar-single u32 = refl
+  scalar-single i32 = refl
+  scalar-single nodeType = refl
+  scalar-single messageType = refl
+  scalar-single threeBytes = refl
 
   pub listed-value : {kind width n : ℕ} → Listed kind width n → valueOf kind v ≡ value kind (numbers (numbersOf width v))
   unfolding valueOf contents lookup within widthOf
@@ -198,10 +223,20 @@ pair-entries v right index h =
     ∙ (λ i. number-at 4 (lit< tt) v (index * 2) i ∷ number-at 4 (lit< tt) v (suc (index * 2)) i ∷ [])
     ∙ (λ i. number (take 4 (drop (first i) v)) ∷ number (take 4 (drop (second i) v)) ∷ [])
 
--- what is no list has no element
-pub no-list : (value : Value) (index : ℕ) → length (elements value) ≡ 0 → elementAt index value ≡ refused 4
+-- the element of a value at an index: it is there, or not
+pub element-there : (index : ℕ) (x : Value) → index < length (elements x)
+    → elementAt index x ≡ given (record { kind = x .kind; entries = getD (elements x) index [] })
 unfolding elementAt checked noElement
-no-list value index e = rw (le-leb (length (elements value)) index (omega arith))
+element-there index x there = rw (lt-leb (length (elements x)) index there)
+
+pub element-none : (index : ℕ) (x : Value) → length (elements x) ≤ index → elementAt index x ≡ refused 4
+unfolding elementAt checked noElement
+element-none index x past = rw (le-leb (length (elements x)) index past)
+
+-- and of what was read
+pub element-given : (index : ℕ) (reading : Answer Value) (x : Value) → reading ≡ given x → element index reading ≡ elementAt index x
+unfolding element andThen
+element-given index reading x e = ap (element index) e
 
 -- a length that strict reading accepts, plain reading accepts
 pub strict-length : (kind : ℕ) (v : List ℕ) → wrongLength strict kind v ≡ false → wrongLength plain kind v ≡ false
@@ -228,6 +263,50 @@ strict-plain code v x e = go (passes _ (given (valueOf (kindOf code) v)) (given 
     go : Clear (readChecks strict code v) × (given (valueOf (kindOf code) v) ≡ given x) → read plain code v ≡ given x
     go (next long (next pad (next len (next text (next yes-no done)))), same) =
         clears _ (next long (next pad (next (strict-length (kindOf code) v len) (next text (next refl done))))) ∙ same
+
+pub any-length : (mode : Mode) (kind : ℕ) (v : List ℕ) → wrongLength mode kind v ≡ false → wrongLength plain kind v ≡ false
+any-length plain kind v e = e
+any-length strict kind v e = strict-length kind v e
+
+-- a reading, check by check
+module _ (mode : Mode) (code : ℕ) (v : List ℕ) where
+  pub read-2 : mostBytes < length v → read mode code v ≡ refused 2
+  unfolding read readChecks
+  read-2 over = refuses _ (here (long v over))
+
+  module _ (short : length v ≤ mostBytes) where
+    pub read-6 : noCode code ≡ true → read mode code v ≡ refused 6
+    unfolding read readChecks
+    read-6 none = refuses _ (later (not-long v short) (here none))
+
+    module _ (some : noCode code ≡ false) where
+      pub read-10 : wrongLength mode (kindOf code) v ≡ true → read mode code v ≡ refused 10
+      unfolding read readChecks
+      read-10 wrong = refuses _ (later (not-long v short) (later some (here wrong)))
+
+      module _ (right : wrongLength mode (kindOf code) v ≡ false) where
+        pub read-11 : notText (kindOf code) v ≡ true → read mode code v ≡ refused 11
+        unfolding read readChecks
+        read-11 wrong = refuses _ (later (not-long v short) (later some (later right (here wrong))))
+
+        module _ (text : notText (kindOf code) v ≡ false) where
+          pub read-14 : unclear mode (kindOf code) v ≡ true → read mode code v ≡ refused 14
+          unfolding read readChecks
+          read-14 wrong = refuses _ (later (not-long v short) (later some (later right (later text (here wrong)))))
+
+          pub read-given : unclear mode (kindOf code) v ≡ false → read mode code v ≡ given (valueOf (kindOf code) v)
+          unfolding read readChecks
+          read-given clear = clears _ (next (not-long v short) (next some (next right (next text (next clear done)))))
+
+-- what was read has a right length for its kind
+pub read-right : (mode : Mode) (code : ℕ) (v : List ℕ) (x : Value) → read mode code v ≡ given x
+    → (wrongLength plain (kindOf code) v ≡ false) × (valueOf (kindOf code) v ≡ x)
+unfolding read readChecks
+read-right mode code v x e = go (passes _ (given (valueOf (kindOf code) v)) (given x) (given-no x) e)
+  where
+    go : Clear (readChecks mode code v) × (given (valueOf (kindOf code) v) ≡ given x)
+        → (wrongLength plain (kindOf code) v ≡ false) × (valueOf (kindOf code) v ≡ x)
+    go (next over (next none (next len (next text (next clear done)))), same) = (any-length mode (kindOf code) v len, cc)
 
 -- a value that is refused has no element
 pub element-refused : (index k : ℕ) (reading : Answer Value) → reading ≡ refused k → element index reading ≡ refused k

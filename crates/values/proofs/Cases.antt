@@ -1,23 +1,34 @@
 -- What each kind's case tells of a value whose length is right.
 -- Assumes nothing.
-use mathlib.Core.Path.{_≡_, sym, ap, _∙_, subst}
+use mathlib.Core.Path.{_≡_, refl, sym, ap, _∙_, subst}
 use Prim.Native.Nat.{ℕ, _+_, _*_, _/_, _≤_, _<_}
 use mathlib.Core.Bool.{false}
-use mathlib.Core.List.{List, []}
+use mathlib.Core.List.{List, [], _∷_}
 use native.Mathlib.Omega.{arith}
-use lib.ListN.{length, take, getD}
+use lib.ListN.{length, take, drop, getD}
 use Rattle.facts.specs.BigEndian.{number}
 use Rattle.facts.proofs.Cells.{part-cells}
+use Rattle.rfc.specs.Numbers.{Answer, given}
 use Rattle.rfc.specs.Kinds.{sizeOf}
 use Rattle.rfc.specs.Values as rfc
 use Rattle.rfc.specs.Values.{numbers, numbersOf, plain, wrongLength, valueOf, elements}
-use Rattle.rfc.proofs.Values.{value, Scalar, holds, Listed, scalar-value, scalar-fits, listed-value, listed-some, listed-count}
-use Rattle.values.specs.Reading.{says, Exact, Tells, Right}
+use Rattle.rfc.proofs.Values.{value, Scalar, holds, Listed, scalar-value, scalar-fits, scalar-single, listed-value, listed-some, listed-count}
+use Rattle.values.specs.Reading.{says, countOf, Named, Tells, Right}
+use types.Run.{OneOf, miss}
+use denote.Enum.Declared.{tagOf}
 use Rattle.values.specs.declared.answer.Value.{Value}
+use Rattle.values.specs.declared.answer.Value.the-variants as case
+use Rattle.values.proofs.answer.Value.{the-type}
 
 -- a byte as a number
-pub one-byte : (v : List ℕ) → 1 ≤ length v → getD v 0 0 ≡ number (take 1 v)
-one-byte v h = let e : getD v 0 0 ≡ 0 * 256 + getD v 0 0 = omega arith in e ∙ ap number (sym (part-cells v 0 1 (omega arith)))
+pub byte-at : (v : List ℕ) (at : ℕ) → at + 1 ≤ length v → getD v at 0 ≡ number (take 1 (drop at v))
+byte-at v at there =
+    let e : getD v at 0 ≡ 0 * 256 + getD v at 0 = omega arith in
+    e ∙ ap number (sym (part-cells v at 1 there))
+
+-- the same answer by another name
+pub same-answer : {v : List ℕ} {a b : Answer rfc.Value} {r : Value} → a ≡ b → Tells v a r → Tells v b r
+same-answer e t = record { told = t .told ∙ e; counted = t .counted; named = t .named }
 
 module _ (kind : ℕ) (v : List ℕ) (right : Right kind v) {k : ℕ} (is : kind ≡ k) where
   -- the length by the kind's own number
@@ -25,25 +36,54 @@ module _ (kind : ℕ) (v : List ℕ) (right : Right kind v) {k : ℕ} (is : kind
   length-is = subst (λ (j : ℕ). wrongLength plain j v ≡ false) is (right .length-right)
 
   -- a case that says what the kind's value is
-  pub tells : (r : Value) (x : rfc.Value) → says r v ≡ x → valueOf k v ≡ x → Exact r v → Tells v (valueOf kind v) r
-  tells r x e f exact = record { told = e ∙ sym f ∙ ap (λ (j : ℕ). valueOf j v) (sym is); exact = exact }
+  pub tells : (r : Value) (x : rfc.Value) → says r v ≡ x → valueOf k v ≡ x → countOf r ≡ length (elements x) → Named r
+      → Tells v (given (valueOf kind v)) r
+  tells r x e f count named =
+      record {
+        told = ap (λ (y : rfc.Value). given y) (e ∙ sym f ∙ ap (λ (j : ℕ). valueOf j v) (sym is));
+        counted = count ∙ ap (λ (y : rfc.Value). length (elements y)) (sym e);
+        named = named;
+      }
 
   module _ {size : ℕ} (s : Scalar k size) where
     -- all bytes of one element are there
     pub fits : size ≤ length v
     fits = scalar-fits v s length-is
 
-    pub scalar : (r : Value) → says r v ≡ value k (holds s v) → Exact r v → Tells v (valueOf kind v) r
-    scalar r e exact = tells r (value k (holds s v)) e (scalar-value v s) exact
+    pub scalar : (r : Value) → says r v ≡ value k (holds s v) → countOf r ≡ 0 → Named r → Tells v (given (valueOf kind v)) r
+    scalar r e none named = tells r (value k (holds s v)) e (scalar-value v s) (none ∙ sym (scalar-single v s)) named
 
   module _ {width n : ℕ} (l : Listed k width n) where
     pub some-size : 0 < sizeOf kind
     some-size = subst (λ (j : ℕ). 0 < sizeOf j) (sym is) (listed-some l)
 
-    pub counted : (count : ℕ) → count ≡ length v / sizeOf kind → count ≡ length (elements (value k (numbers (numbersOf width v))))
-    counted count e =
-        e ∙ ap (λ (j : ℕ). length v / sizeOf j) is ∙ sym (listed-count l v length-is)
-        ∙ ap (λ (x : rfc.Value). length (elements x)) (listed-value v l)
+    pub listed : (r : Value) → says r v ≡ value k (numbers (numbersOf width v)) → countOf r ≡ length v / sizeOf kind → Named r
+        → Tells v (given (valueOf kind v)) r
+    listed r e count named =
+        tells r (value k (numbers (numbersOf width v))) e (listed-value v l)
+        (count ∙ ap (λ (j : ℕ). length v / sizeOf j) is ∙ sym (listed-count l v length-is)
+        ∙ ap (λ (x : rfc.Value). length (elements x)) (listed-value v l))
+        named
 
-    pub listed : (r : Value) → says r v ≡ value k (numbers (numbersOf width v)) → Exact r v → Tells v (valueOf kind v) r
-    listed r e exact = tells r (value k (numbers (numbersOf width v))) e (listed-value v l) exact
+-- the kinds that are no lists, by their numbers
+abbrev single : List ℕ
+single = 0 ∷ 1 ∷ 4 ∷ 5 ∷ 6 ∷ 8 ∷ 9 ∷ 10 ∷ 12 ∷ 13 ∷ 14 ∷ 15 ∷ []
+
+-- have no element
+pub uncounted : (r : Value) → OneOf single (tagOf the-type r) → 0 ≡ countOf r
+uncounted case.Raw e = refl
+uncounted (case.Address n) e = refl
+uncounted (case.Addresses count) e = absurd (miss single 2 tt e)
+uncounted (case.Pairs count) e = absurd (miss single 3 tt e)
+uncounted (case.Byte n) e = refl
+uncounted (case.YesNo t) e = refl
+uncounted (case.U16 n) e = refl
+uncounted (case.U16s count) e = absurd (miss single 7 tt e)
+uncounted (case.U32 n) e = refl
+uncounted (case.I32 z) e = refl
+uncounted case.Text e = refl
+uncounted (case.Codes count) e = absurd (miss single 11 tt e)
+uncounted (case.NodeType node) e = refl
+uncounted (case.MessageType n) e = refl
+uncounted (case.ThreeBytes a b c) e = refl
+uncounted case.Flag e = refl

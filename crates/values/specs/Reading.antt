@@ -4,7 +4,7 @@ use Prim.Native.Nat.{ℕ, _<_}
 use mathlib.Core.Bool.{Bool, true, false}
 use mathlib.Core.Path.{_≡_}
 use mathlib.Core.List.{List, [], _∷_}
-use lib.ListN.{length}
+use lib.ListN.{length, getD}
 use Rattle.rfc.specs.Numbers.{Answer, given, refused}
 use Rattle.rfc.specs.Values as rfc
 use Rattle.rfc.specs.Values.{Content, raw, natural, integer, truth, numbers, nothing, numbersOf, Rule, exactly, atLeast, multiple, Mode, plain, strict, elements, nodeOf, valueOf, wrongLength}
@@ -61,43 +61,54 @@ says (value.MessageType n) v = record { kind = 13; content = natural n }
 says (value.ThreeBytes a b c) v = record { kind = 14; content = raw (a ∷ b ∷ c ∷ []) }
 says value.Flag v = record { kind = 15; content = nothing }
 
--- a list's count is the number of its elements, and a node type is the one that its byte has
-abbrev pub Exact : Value → List ℕ → Type 0
-Exact value.Raw v = Unit {0}
-Exact (value.Address n) v = Unit {0}
-Exact (value.Addresses count) v = count ≡ length (elements (says (value.Addresses count) v))
-Exact (value.Pairs count) v = count ≡ length (elements (says (value.Pairs count) v))
-Exact (value.Byte n) v = Unit {0}
-Exact (value.YesNo t) v = Unit {0}
-Exact (value.U16 n) v = Unit {0}
-Exact (value.U16s count) v = count ≡ length (elements (says (value.U16s count) v))
-Exact (value.U32 n) v = Unit {0}
-Exact (value.I32 z) v = Unit {0}
-Exact value.Text v = Unit {0}
-Exact (value.Codes count) v = count ≡ length (elements (says (value.Codes count) v))
-Exact (value.NodeType node) v = nodeSays node ≡ nodeOf (byteOf node)
-Exact (value.MessageType n) v = Unit {0}
-Exact (value.ThreeBytes a b c) v = Unit {0}
-Exact value.Flag v = Unit {0}
+-- how many elements a case says that there are
+abbrev pub countOf : Value → ℕ
+countOf value.Raw = 0
+countOf (value.Address n) = 0
+countOf (value.Addresses count) = count
+countOf (value.Pairs count) = count
+countOf (value.Byte n) = 0
+countOf (value.YesNo t) = 0
+countOf (value.U16 n) = 0
+countOf (value.U16s count) = count
+countOf (value.U32 n) = 0
+countOf (value.I32 z) = 0
+countOf value.Text = 0
+countOf (value.Codes count) = count
+countOf (value.NodeType node) = 0
+countOf (value.MessageType n) = 0
+countOf (value.ThreeBytes a b c) = 0
+countOf value.Flag = 0
 
--- of the bytes v, which hold x, r tells
-pub record Tells (v : List ℕ) (x : rfc.Value) (r : Value) : Type 0 where
-  pub told : says r v ≡ x
-  pub exact : Exact r v
+-- a node type is the one that its byte has
+abbrev pub Named : Value → Type 0
+Named value.Raw = Unit {0}
+Named (value.Address n) = Unit {0}
+Named (value.Addresses count) = Unit {0}
+Named (value.Pairs count) = Unit {0}
+Named (value.Byte n) = Unit {0}
+Named (value.YesNo t) = Unit {0}
+Named (value.U16 n) = Unit {0}
+Named (value.U16s count) = Unit {0}
+Named (value.U32 n) = Unit {0}
+Named (value.I32 z) = Unit {0}
+Named value.Text = Unit {0}
+Named (value.Codes count) = Unit {0}
+Named (value.NodeType node) = nodeSays node ≡ nodeOf (byteOf node)
+Named (value.MessageType n) = Unit {0}
+Named (value.ThreeBytes a b c) = Unit {0}
+Named value.Flag = Unit {0}
 
--- what a reading says, with the value's bytes
-abbrev pub readingSays : Reading → List ℕ → Answer rfc.Value
-readingSays (Is r) v = given (says r v)
-readingSays (Refused number) v = refused number
+-- of the bytes v, the case r tells the answer; what is no list has no element
+pub record Tells (v : List ℕ) (answer : Answer rfc.Value) (r : Value) : Type 0 where
+  pub told : given (says r v) ≡ answer
+  pub counted : countOf r ≡ length (elements (says r v))
+  pub named : Named r
 
-abbrev pub ExactIn : Reading → List ℕ → Type 0
-ExactIn (Is r) v = Exact r v
-ExactIn (Refused number) v = Unit {0}
-
--- the reading of a value of a code
-pub record ReadAs (mode : Mode) (code : ℕ) (v : List ℕ) (r : Reading) : Type 0 where
-  pub told : readingSays r v ≡ rfc.read mode code v
-  pub exact : ExactIn r v
+-- of the bytes v, a reading tells the answer
+abbrev pub ReadAs : List ℕ → Answer rfc.Value → Reading → Type 0
+ReadAs v answer (Is r) = Tells v answer r
+ReadAs v answer (Refused number) = refused number ≡ answer
 
 -- what each case of an element says: the list's kind, and the element's numbers
 abbrev pub elementSays : Element → Answer rfc.Element
@@ -112,7 +123,19 @@ pub record Right (kind : ℕ) (v : List ℕ) : Type 0 where
   pub is-kind : kind < 16
   pub length-right : wrongLength plain kind v ≡ false
 
--- what was read of v
-pub record Held (v : List ℕ) (r : Value) : Type 0 where
-  pub exact : Exact r v
-  pub length-right : wrongLength plain (says r v .kind) v ≡ false
+-- the kinds that are lists
+pub data ListKind : ℕ → Type 0 where
+  addresses : ListKind 2
+  pairs : ListKind 3
+  u16s : ListKind 7
+  codes : ListKind 11
+
+-- a list's bytes, and an index below its count
+pub record Entry (kind : ℕ) (v : List ℕ) (index : ℕ) : Type 0 where
+  pub is-list : ListKind kind
+  pub length-right : wrongLength plain kind v ≡ false
+  pub below : index < length (elements (valueOf kind v))
+
+-- the element there
+abbrev pub entryAt : ℕ → List ℕ → ℕ → Answer rfc.Element
+entryAt kind v index = given (record { kind = kind; entries = getD (elements (valueOf kind v)) index [] })

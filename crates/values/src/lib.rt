@@ -2,13 +2,14 @@
 pub mod answer;
 mod rules;
 
-ghost use Prim.Native.Nat.{_+_, _*_, _/_, _≤_, _<_};
+ghost use Prim.Native.Nat.{_+_, _/_, _≤_, _<_};
 ghost use mathlib.Core.Path.{_≡_};
 ghost use lib.ListN.{length, take, drop};
 ghost use Rattle.facts.specs.BigEndian.{number};
+ghost use Rattle.rfc.specs.Numbers.{given};
 ghost use Rattle.rfc.specs.Kinds.{sizeOf};
 ghost use Rattle.rfc.specs.Values as rfc;
-ghost use Rattle.values.specs.Reading.{modeOf, says, ReadAs, Tells, Right, Held, elementSays, nodeSays, byteOf};
+ghost use Rattle.values.specs.Reading.{modeOf, ReadAs, Tells, Right, elementSays, countOf, Entry, entryAt, nodeSays, byteOf};
 use answer::Element;
 use answer::Node;
 use answer::Reading;
@@ -17,7 +18,7 @@ use limits::MOST_BYTES;
 
 // What the value of an option with this code reads as.
 pub fn read(code: u8, value: &[u8], strict: bool) -> Reading
-    ensures { λ r. ⌜ ReadAs (modeOf strict) code (now (value .entry)) r ⌝ }
+    ensures { λ r. ⌜ ReadAs (now (value .entry)) (rfc.read (modeOf strict) code (now (value .entry))) r ⌝ }
 {
     if value.len() > MOST_BYTES {
         return Reading::Refused(2);
@@ -70,7 +71,7 @@ fn unclear(kind: u8, value: &[u8], strict: bool) -> bool
 // What a value holds whose length is right for its kind.
 fn value_of(kind: u8, value: &[u8]) -> Value
     requires { ⌜ Right kind (now value) ⌝ }
-    ensures { λ r. ⌜ Tells (now (value .entry)) (rfc.valueOf kind (now (value .entry))) r ⌝ }
+    ensures { λ r. ⌜ Tells (now (value .entry)) (given (rfc.valueOf kind (now (value .entry)))) r ⌝ }
 {
     match kind {
         0 => Value::Raw,
@@ -135,49 +136,38 @@ pub fn element(code: u8, value: &[u8], index: usize) -> Element
 {
     match read(code, value, false) {
         Reading::Refused(number) => Element::Refused(number),
-        Reading::Is(held) => element_of(held, value, index),
+        Reading::Is(held) => {
+            if index >= count_of(held) {
+                return Element::Refused(4);
+            }
+            entry(kinds::kind_of(code), value, index)
+        }
     }
 }
 
-// The element at an index of what was read of a value.
-fn element_of(held: Value, value: &[u8], index: usize) -> Element
-    requires { ⌜ Held (now value) held ⌝ }
-    ensures { λ r. ⌜ elementSays r ≡ rfc.elementAt index (says held (now (value .entry))) ⌝ }
+// How many elements were read.
+fn count_of(held: Value) -> usize
+    ensures { λ r. ⌜ r ≡ countOf held ⌝ }
 {
     match held {
-        Value::Addresses(count) => {
-            if index >= count {
-                return Element::Refused(4);
-            }
-            Element::Address(u32_at(value, start_of(2, value, index)))
-        }
-        Value::Pairs(count) => {
-            if index >= count {
-                return Element::Refused(4);
-            }
-            let at = start_of(3, value, index);
-            Element::Pair(u32_at(value, at), u32_at(value, at + 4))
-        }
-        Value::U16s(count) => {
-            if index >= count {
-                return Element::Refused(4);
-            }
-            Element::U16(u16_at(value, start_of(7, value, index)))
-        }
-        Value::Codes(count) => {
-            if index >= count {
-                return Element::Refused(4);
-            }
-            Element::Code(value[start_of(11, value, index)])
-        }
-        _ => Element::Refused(4),
+        Value::Addresses(count) => count,
+        Value::Pairs(count) => count,
+        Value::U16s(count) => count,
+        Value::Codes(count) => count,
+        _ => 0,
     }
 }
 
-// Where the element at an index begins.
-fn start_of(kind: u8, value: &[u8], index: usize) -> usize
-    requires { ⌜ index < length (now value) / sizeOf kind ⌝ }
-    ensures { λ r. ⌜ (r ≡ index * sizeOf kind) × (r + sizeOf kind ≤ length (now (value .entry))) ⌝ }
+// The element at an index that a list has.
+fn entry(kind: u8, value: &[u8], index: usize) -> Element
+    requires { ⌜ Entry kind (now value) index ⌝ }
+    ensures { λ r. ⌜ elementSays r ≡ entryAt kind (now (value .entry)) index ⌝ }
 {
-    index * kinds::element_size(kind)
+    let at = index * kinds::element_size(kind);
+    match kind {
+        2 => Element::Address(u32_at(value, at)),
+        3 => Element::Pair(u32_at(value, at), u32_at(value, at + 4)),
+        7 => Element::U16(u16_at(value, at)),
+        _ => Element::Code(value[at]),
+    }
 }

@@ -7,7 +7,6 @@ use Rattle.values.proofs.not_text.Statement.{statement}
 use Rattle.values.proofs.not_text.Tie as tie
 use Rattle.values.proofs.not_text.Reads as reads
 use Rattle.values.proofs.not_text.Lts as lts
-use Rattle.values.proofs.is_utf8.Reads as is-utf8-reads
 
 -- src/lib.rt:50:9
 returns : tie.Need-returns

@@ -1,0 +1,131 @@
+-- The element at an index of a list, as the code reads it.
+-- Assumes nothing.
+use mathlib.Core.Path.{_≡_, refl, sym, ap, _∙_, subst}
+use Prim.Native.Nat.{ℕ, _+_, _*_, _/_, _≤_, _<_}
+use mathlib.Core.Bool.{false}
+use mathlib.Core.List.{List, [], _∷_}
+use native.Mathlib.Nat.{one-mul}
+use native.Mathlib.Omega.{arith}
+use lib.ListN.{length, take, drop, getD}
+use Rattle.facts.specs.BigEndian.{number}
+use Rattle.facts.proofs.Pieces.{piece-lies}
+use Rattle.rfc.specs.Numbers.{given, refused}
+use Rattle.rfc.specs.Kinds.{kindOf, sizeOf}
+use Rattle.rfc.specs.Values as rfc
+use Rattle.rfc.specs.Values.{plain, wrongLength, valueOf, read, elements, elementAt, element}
+use Rattle.rfc.proofs.Values.{kind-kept, Listed, listed-count, listed-size, one-entry, pair-entries, read-right, element-there, element-none, element-given}
+use Rattle.rfc.proofs.Values as laws
+use Rattle.values.specs.Reading.{says, countOf, Tells, ListKind, addresses, pairs, u16s, codes, Entry, entryAt}
+use Rattle.values.specs.declared.answer.Value.{Value}
+use Rattle.values.specs.declared.answer.Value.the-variants as case
+
+-- the last list kind
+pub last-kind : {kind : ℕ} → ListKind kind → (kind ≡ 2 → ⊥) → (kind ≡ 3 → ⊥) → (kind ≡ 7 → ⊥) → kind ≡ 11
+last-kind addresses n₂ n₃ n₇ = absurd (n₂ refl)
+last-kind pairs n₂ n₃ n₇ = absurd (n₃ refl)
+last-kind u16s n₂ n₃ n₇ = absurd (n₇ refl)
+last-kind codes n₂ n₃ n₇ = refl
+
+module _ (kind : ℕ) (v : List ℕ) (index : ℕ) (e : Entry kind v index) {k width n : ℕ} (is : kind ≡ k) (l : Listed k width n) where
+  right : wrongLength plain k v ≡ false
+  right = subst (λ (j : ℕ). wrongLength plain j v ≡ false) is (e .length-right)
+
+  below : index < length v / sizeOf k
+  below = subst (λ (j : ℕ). index < j) (ap (λ (j : ℕ). length (elements (valueOf j v))) is ∙ listed-count l v right) (e .below)
+
+  module _ (size : ℕ) (s : size ≡ sizeOf kind) where
+    size-is : size ≡ n * width
+    size-is = s ∙ ap sizeOf is ∙ listed-size l .0
+
+    -- where it begins, and that it is there whole
+    pub start : index * size ≡ index * (n * width)
+    start = ap (λ (j : ℕ). index * j) size-is
+
+    pub lies : index * size + n * width ≤ length v
+    lies =
+        subst (λ (j : ℕ). index * size + j ≤ length v) size-is
+        (subst (λ (j : ℕ). index * j + j ≤ length v) (sym (s ∙ ap sizeOf is)) (piece-lies (sizeOf k) (length v) index below))
+
+  -- the element, by its numbers
+  entry-is : (entries : List ℕ) → getD (elements (valueOf k v)) index [] ≡ entries
+      → given (record { kind = k; entries = entries }) ≡ entryAt kind v index
+  entry-is entries f =
+      ap (λ (x : List ℕ). given (record { kind = k; entries = x })) (sym f) ∙ ap (λ (j : ℕ). entryAt j v index) (sym is)
+
+pub within : {kind : ℕ} → ListKind kind → (v : List ℕ) (index : ℕ) → Entry kind v index → (size : ℕ) → size ≡ sizeOf kind
+    → index * size ≤ length v
+within addresses v index e size s = omega (arith, lies 2 v index e refl laws.addresses size s)
+within pairs v index e size s = omega (arith, lies 3 v index e refl laws.pairs size s)
+within u16s v index e size s = omega (arith, lies 7 v index e refl laws.u16s size s)
+within codes v index e size s = omega (arith, lies 11 v index e refl laws.codes size s)
+
+module _ (kind : ℕ) (v : List ℕ) (index : ℕ) (e : Entry kind v index) (size : ℕ) (s : size ≡ sizeOf kind) where
+  -- an element of one number
+  pub one : {k width : ℕ} (is : kind ≡ k) → Listed k width 1 → (x : ℕ) → x ≡ number (take width (drop (index * size) v))
+      → given (record { kind = k; entries = x ∷ [] }) ≡ entryAt kind v index
+  one {width = width} is l x f =
+      let at : index * size ≡ index * width = start kind v index e is l size s ∙ ap (λ (j : ℕ). index * j) (one-mul width) in
+      entry-is kind v index e is l (x ∷ [])
+      (one-entry l v (right kind v index e is l) index (below kind v index e is l)
+      ∙ ap (λ (j : ℕ). number (take width (drop j v)) ∷ []) (sym at)
+      ∙ ap (λ (j : ℕ). j ∷ []) (sym f))
+
+  -- a pair
+  pub two : kind ≡ 3 → (x y : ℕ) → x ≡ number (take 4 (drop (index * size) v)) → y ≡ number (take 4 (drop (index * size + 4) v))
+      → given (record { kind = 3; entries = x ∷ y ∷ [] }) ≡ entryAt kind v index
+  two is x y f g =
+      let at : index * size ≡ index * 8 = start kind v index e is laws.pairs size s in
+      entry-is kind v index e is laws.pairs (x ∷ y ∷ [])
+      (pair-entries v (right kind v index e is laws.pairs) index (below kind v index e is laws.pairs)
+      ∙ ap (λ (j : ℕ). number (take 4 (drop j v)) ∷ number (take 4 (drop (j + 4) v)) ∷ []) (sym at)
+      ∙ sym (λ i. f i ∷ g i ∷ []))
+
+-- what has elements is a list
+list-kind : (r : Value) (v : List ℕ) (index : ℕ) → index < countOf r → ListKind (says r v .kind)
+list-kind case.Raw v index some = absurd (omega arith)
+list-kind (case.Address n) v index some = absurd (omega arith)
+list-kind (case.Addresses count) v index some = addresses
+list-kind (case.Pairs count) v index some = pairs
+list-kind (case.Byte n) v index some = absurd (omega arith)
+list-kind (case.YesNo t) v index some = absurd (omega arith)
+list-kind (case.U16 n) v index some = absurd (omega arith)
+list-kind (case.U16s count) v index some = u16s
+list-kind (case.U32 n) v index some = absurd (omega arith)
+list-kind (case.I32 z) v index some = absurd (omega arith)
+list-kind case.Text v index some = absurd (omega arith)
+list-kind (case.Codes count) v index some = codes
+list-kind (case.NodeType node) v index some = absurd (omega arith)
+list-kind (case.MessageType n) v index some = absurd (omega arith)
+list-kind (case.ThreeBytes a b c) v index some = absurd (omega arith)
+list-kind case.Flag v index some = absurd (omega arith)
+
+-- the element of what was read
+module _ (code : ℕ) (v : List ℕ) (index : ℕ) (held : Value) (t : Tells v (read plain code v) held) where
+  of-held : element index (read plain code v) ≡ elementAt index (says held v)
+  of-held = element-given index (read plain code v) (says held v) (sym (t .told))
+
+  pub no-element : countOf held ≤ index → refused 4 ≡ element index (read plain code v)
+  no-element past = sym (of-held ∙ element-none index (says held v) (omega (arith, t .counted)))
+
+  module _ (kind : ℕ) (is : kind ≡ kindOf code) (there : index < countOf held) where
+    was-right : (wrongLength plain (kindOf code) v ≡ false) × (valueOf (kindOf code) v ≡ says held v)
+    was-right = read-right plain code v (says held v) (sym (t .told))
+
+    value-is : valueOf kind v ≡ says held v
+    value-is = ap (λ (j : ℕ). valueOf j v) is ∙ was-right .1
+
+    kind-is : says held v .kind ≡ kind
+    kind-is = ap (λ (x : rfc.Value). x .kind) (sym value-is) ∙ kind-kept v kind
+
+    pub an-entry : Entry kind v index
+    an-entry =
+        record {
+          is-list = subst ListKind kind-is (list-kind held v index there);
+          length-right = ap (λ (j : ℕ). wrongLength plain j v) is ∙ was-right .0;
+          below = omega (arith, t .counted, ap (λ (x : rfc.Value). length (elements x)) value-is);
+        }
+
+    pub an-element : entryAt kind v index ≡ element index (read plain code v)
+    an-element =
+        sym (of-held ∙ element-there index (says held v) (omega (arith, t .counted))
+        ∙ (λ i. given (record { kind = kind-is i; entries = getD (elements (sym value-is i)) index [] })))
