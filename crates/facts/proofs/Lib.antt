@@ -5,3 +5,4 @@ pub mod Table
 pub mod BigEndian
 pub mod Unique
 pub mod Signs
+pub mod Cells

@@ -8,3 +8,4 @@ pub mod Fewest
 pub mod Codes
 pub mod Values
 pub mod Endings
+pub mod Header
