@@ -3,3 +3,5 @@ pub mod Shown
 pub mod Answers
 pub mod Joining
 pub mod Unique
+pub mod Fields
+pub mod UniqueHeader

@@ -1,5 +1,6 @@
 // The walk over an area of options, as the crate's `DhcpOptionIterator::next` has it, by value: one call from a place.
 pub mod answer;
+pub mod header;
 mod parts;
 
 ghost use Prim.Native.Nat.{_≤_};

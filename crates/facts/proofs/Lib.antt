@@ -6,3 +6,4 @@ pub mod BigEndian
 pub mod Cells
 pub mod Unique
 pub mod Signs
+pub mod Cells

@@ -1,11 +1,12 @@
 pub mod Numbers
+pub mod Header
 pub mod Walk
 pub mod Places
+pub mod Codes
+pub mod Text
+pub mod Values
 pub mod Writing
 pub mod Parts
 pub mod Lists
 pub mod Fewest
-pub mod Codes
-pub mod Values
 pub mod Endings
-pub mod Text

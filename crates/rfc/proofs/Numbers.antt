@@ -1,13 +1,13 @@
 -- The laws of `specs/Numbers.antt`: what each test says, and which check decides.
 -- Assumes nothing.
-use mathlib.Core.Path.{_≡_, refl, sym}
+use mathlib.Core.Path.{_≡_, refl, sym, subst}
 use Prim.Native.Nat.{ℕ, _+_, _≤_, _<_}
 use mathlib.Core.Bool.{Bool, true, false}
 use mathlib.Core.List.{List, [], _∷_, _++_}
 use native.Mathlib.Omega.{arith}
 use lib.ListN.{length}
 use borrow.Author.Tests.{lt-ltb, le-ltb, ltb-false, eq-eqb, ne-eqb}
-use Rattle.rfc.specs.Numbers.{Answer, given, refused, needs, andThen, mostBytes, mostValue, padCode, endCode, tooLong, pastEnd, noCode, tooMuch, noRoom, Check, check, checked}
+use Rattle.rfc.specs.Numbers.{Answer, given, refused, needs, andThen, leastMessage, mostBytes, mostValue, padCode, endCode, tooLong, tooShort, pastEnd, noCode, tooMuch, noRoom, Check, check, checked}
 
 -- the check of this number is the first whose test holds
 pub data Refuses : List Check → ℕ → Type 0 where
@@ -48,6 +48,26 @@ given-no a k e = let z : _≡_ {A = ℕ} 0 1 = cc in omega arith
 pub needs-no : {A : Type 0} (n k : ℕ) → _≡_ {A = Answer A} (needs n) (refused k) → ⊥
 needs-no n k e = let z : _≡_ {A = ℕ} 0 1 = cc in omega arith
 
+-- back from a refusal to the check that gave it
+pub refuser : {A : Type 0} (cs : List Check) (a : A) (n : ℕ) → checked cs (given a) ≡ refused n → Refuses cs n
+unfolding checked
+refuser [] a n e = absurd (given-no a n e)
+refuser (check true k ∷ cs) a n e = let h : k ≡ n = cc in subst (λ (m : ℕ). Refuses (check true k ∷ cs) m) h (here refl)
+refuser (check false k ∷ cs) a n e = later refl (refuser cs a n e)
+
+-- checks behind others
+pub refuses-front : {cs : List Check} {n : ℕ} (ds : List Check) → Refuses cs n → Refuses (cs ++ ds) n
+refuses-front ds (here e) = here e
+refuses-front ds (later e r) = later e (refuses-front ds r)
+
+pub refuses-behind : {cs ds : List Check} {n : ℕ} → Clear cs → Refuses ds n → Refuses (cs ++ ds) n
+refuses-behind done r = r
+refuses-behind (next e c) r = later e (refuses-behind c r)
+
+pub clear-both : {cs ds : List Check} → Clear cs → Clear ds → Clear (cs ++ ds)
+clear-both done d = d
+clear-both (next e c) d = next e (clear-both c d)
+
 -- a refusal stands, whatever would be made of what is given
 pub refused-stands : {A B : Type 0} (f : A → Answer B) (k : ℕ) → andThen (refused k) f ≡ refused k
 unfolding andThen
@@ -65,6 +85,19 @@ long bytes h = lt-ltb mostBytes (length bytes) h
 pub not-long : (bytes : List ℕ) → length bytes ≤ mostBytes → tooLong bytes ≡ false
 unfolding tooLong
 not-long bytes h = le-ltb mostBytes (length bytes) h
+
+-- 1
+pub short : (message : List ℕ) → length message < leastMessage → tooShort message ≡ true
+unfolding tooShort
+short message h = lt-ltb (length message) leastMessage h
+
+pub not-short : (message : List ℕ) → leastMessage ≤ length message → tooShort message ≡ false
+unfolding tooShort
+not-short message h = le-ltb (length message) leastMessage h
+
+pub long-enough : (message : List ℕ) → tooShort message ≡ false → leastMessage ≤ length message
+unfolding tooShort
+long-enough message e = ltb-false (length message) leastMessage e
 
 -- 4
 pub past : (place : ℕ) (bytes : List ℕ) → length bytes < place → pastEnd place bytes ≡ true
