@@ -3,7 +3,6 @@ pub mod Pieces
 pub mod Ranges
 pub mod Table
 pub mod BigEndian
-pub mod Cells
-pub mod Unique
 pub mod Signs
 pub mod Cells
+pub mod Unique

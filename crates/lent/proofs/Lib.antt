@@ -1,0 +1,5 @@
+pub mod Steps
+pub mod Values
+pub mod Lending
+pub mod Moves
+pub mod Unique
