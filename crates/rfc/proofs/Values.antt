@@ -18,10 +18,10 @@ use Rattle.facts.proofs.Pieces.{piece-at, count-whole}
 use Rattle.facts.proofs.Ranges.{outside}
 use Rattle.facts.proofs.Table.{each}
 use Rattle.rfc.specs.Numbers.{Answer, given, refused, needs, mostBytes, andThen, checked, noElement, noCode}
-use Rattle.rfc.specs.Walk.{Found}
+use Rattle.rfc.specs.Walk.{Found, Stop, stop, option}
 use Rattle.rfc.specs.Kinds.{kindOf, sizeOf, sizes}
 use Rattle.rfc.specs.Text.{utf8}
-use Rattle.rfc.specs.Values.{Content, raw, natural, integer, truth, numbers, nothing, Value, numbersOf, widthOf, contents, valueOf, Rule, exactly, atLeast, multiple, breaks, Mode, plain, strict, rules, ruleFor, wrongLength, notText, unclear, readChecks, read, elements, elementAt, element, nodeOf, bNode, pNode, mNode, hNode, unknown, readOption}
+use Rattle.rfc.specs.Values.{Content, raw, natural, integer, truth, numbers, nothing, Value, numbersOf, widthOf, contents, valueOf, Rule, exactly, atLeast, multiple, breaks, Mode, plain, strict, rules, ruleFor, wrongLength, notText, unclear, readChecks, read, elements, elementAt, element, nodeOf, bNode, pNode, mNode, hNode, unknown, stopped, valued, readFound, readOption}
 use Rattle.rfc.proofs.Numbers.{Refuses, here, later, refuses, Clear, done, next, clears, passes, long, not-long, given-no, refused-stands, needs-stands}
 
 -- a value by its kind and what it holds
@@ -313,7 +313,7 @@ pub element-refused : (index k : ℕ) (reading : Answer Value) → reading ≡ r
 unfolding element
 element-refused index k reading e = ap (element index) e ∙ refused-stands _ k
 
--- a call of the walk that is refused is not read
+-- a whole option: what a call of the walk refused is not read
 pub option-refused : (mode : Mode) (k : ℕ) (answer : Answer Found) → answer ≡ refused k → readOption mode answer ≡ refused k
 unfolding readOption
 option-refused mode k answer e = ap (readOption mode) e ∙ refused-stands _ k
@@ -321,6 +321,21 @@ option-refused mode k answer e = ap (readOption mode) e ∙ refused-stands _ k
 pub option-needs : (mode : Mode) (n : ℕ) (answer : Answer Found) → answer ≡ needs n → readOption mode answer ≡ needs n
 unfolding readOption
 option-needs mode n answer e = ap (readOption mode) e ∙ needs-stands _ n
+
+-- a stop passes through
+pub option-stopped : (mode : Mode) (s : Stop) (at : ℕ) → readOption mode (given (stop s at)) ≡ given (stopped s at)
+unfolding readOption andThen readFound
+option-stopped mode s at = refl
+
+-- an option is read
+module _ (mode : Mode) (code : ℕ) (v : List ℕ) (n at : ℕ) where
+  pub value-refused : (k : ℕ) → read mode code v ≡ refused k → readOption mode (given (option code v n at)) ≡ refused k
+  unfolding readOption andThen readFound
+  value-refused k e = ap (λ (a : Answer Value). andThen a (λ (x : Value). given (valued code x at))) e
+
+  pub value-given : (x : Value) → read mode code v ≡ given x → readOption mode (given (option code v n at)) ≡ given (valued code x at)
+  unfolding readOption andThen readFound
+  value-given x e = ap (λ (a : Answer Value). andThen a (λ (y : Value). given (valued code y at))) e
 
 -- the length by its rule
 pub length-by : (mode : Mode) (kind : ℕ) (v : List ℕ) (rule : Rule) → ruleFor mode kind ≡ rule

@@ -141,14 +141,14 @@ pub data Node : Type 0 where
 unfoldable pub nodeOf : ℕ → Node
 nodeOf byte = lookup (unknown byte) (row 1 1 bNode ∷ row 2 2 pNode ∷ row 4 4 mNode ∷ row 8 8 hNode ∷ []) byte
 
--- a whole option, read: a stop, or the option's code, its bytes, the number of its parts, the place behind it, and its value
+-- a whole option, read: a stop, or the option's code, its value, and the place behind it
 pub data Whole : Type 0 where
   stopped : Stop → ℕ → Whole
-  valued : ℕ → List ℕ → ℕ → ℕ → Value → Whole
+  valued : ℕ → Value → ℕ → Whole
 
 unfoldable pub readFound : Mode → Found → Answer Whole
 readFound mode (stop s at) = given (stopped s at)
-readFound mode (option code v n at) = andThen (read mode code v) (λ (value : Value). given (valued code v n at value))
+readFound mode (option code v n at) = andThen (read mode code v) (λ (value : Value). given (valued code value at))
 
 -- what a call of the walk answered, read: a stop passes through, and the walk's refusals come first
 unfoldable pub readOption : Mode → Answer Found → Answer Whole

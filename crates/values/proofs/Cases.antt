@@ -28,7 +28,7 @@ byte-at v at there =
 
 -- the same answer by another name
 pub same-answer : {v : List ℕ} {a b : Answer rfc.Value} {r : Value} → a ≡ b → Tells v a r → Tells v b r
-same-answer e t = record { told = t .told ∙ e; counted = t .counted; named = t .named }
+same-answer e t = record { told = t .told ∙ e; exact = t .exact }
 
 module _ (kind : ℕ) (v : List ℕ) (right : Right kind v) {k : ℕ} (is : kind ≡ k) where
   -- the length by the kind's own number
@@ -41,8 +41,7 @@ module _ (kind : ℕ) (v : List ℕ) (right : Right kind v) {k : ℕ} (is : kind
   tells r x e f count named =
       record {
         told = ap (λ (y : rfc.Value). given y) (e ∙ sym f ∙ ap (λ (j : ℕ). valueOf j v) (sym is));
-        counted = count ∙ ap (λ (y : rfc.Value). length (elements y)) (sym e);
-        named = named;
+        exact = record { counted = count ∙ ap (λ (y : rfc.Value). length (elements y)) (sym e); named = named };
       }
 
   module _ {size : ℕ} (s : Scalar k size) where

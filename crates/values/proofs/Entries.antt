@@ -105,7 +105,7 @@ module _ (code : ℕ) (v : List ℕ) (index : ℕ) (held : Value) (t : Tells v (
   of-held = element-given index (read plain code v) (says held v) (sym (t .told))
 
   pub no-element : countOf held ≤ index → refused 4 ≡ element index (read plain code v)
-  no-element past = sym (of-held ∙ element-none index (says held v) (omega (arith, t .counted)))
+  no-element past = sym (of-held ∙ element-none index (says held v) (omega (arith, t .exact .counted)))
 
   module _ (kind : ℕ) (is : kind ≡ kindOf code) (there : index < countOf held) where
     was-right : (wrongLength plain (kindOf code) v ≡ false) × (valueOf (kindOf code) v ≡ says held v)
@@ -122,10 +122,10 @@ module _ (code : ℕ) (v : List ℕ) (index : ℕ) (held : Value) (t : Tells v (
         record {
           is-list = subst ListKind kind-is (list-kind held v index there);
           length-right = ap (λ (j : ℕ). wrongLength plain j v) is ∙ was-right .0;
-          below = omega (arith, t .counted, ap (λ (x : rfc.Value). length (elements x)) value-is);
+          below = omega (arith, t .exact .counted, ap (λ (x : rfc.Value). length (elements x)) value-is);
         }
 
     pub an-element : entryAt kind v index ≡ element index (read plain code v)
     an-element =
-        sym (of-held ∙ element-there index (says held v) (omega (arith, t .counted))
+        sym (of-held ∙ element-there index (says held v) (omega (arith, t .exact .counted))
         ∙ (λ i. given (record { kind = kind-is i; entries = getD (elements (sym value-is i)) index [] })))

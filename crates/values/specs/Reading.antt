@@ -80,7 +80,7 @@ countOf (value.MessageType n) = 0
 countOf (value.ThreeBytes a b c) = 0
 countOf value.Flag = 0
 
--- a node type is the one that its byte has
+-- where it is a node type, it is the one that its byte has
 abbrev pub Named : Value → Type 0
 Named value.Raw = Unit {0}
 Named (value.Address n) = Unit {0}
@@ -99,11 +99,15 @@ Named (value.MessageType n) = Unit {0}
 Named (value.ThreeBytes a b c) = Unit {0}
 Named value.Flag = Unit {0}
 
--- of the bytes v, the case r tells the answer; what is no list has no element
-pub record Tells (v : List ℕ) (answer : Answer rfc.Value) (r : Value) : Type 0 where
-  pub told : given (says r v) ≡ answer
+-- a list's count is the number of its elements, what is no list has none, and a node type is the one that its byte has
+pub record Exact (v : List ℕ) (r : Value) : Type 0 where
   pub counted : countOf r ≡ length (elements (says r v))
   pub named : Named r
+
+-- of the bytes v, the case r tells the answer
+pub record Tells (v : List ℕ) (answer : Answer rfc.Value) (r : Value) : Type 0 where
+  pub told : given (says r v) ≡ answer
+  pub exact : Exact v r
 
 -- of the bytes v, a reading tells the answer
 abbrev pub ReadAs : List ℕ → Answer rfc.Value → Reading → Type 0

@@ -1,0 +1,41 @@
+-- What the contract of a whole option's reading says, over the definitions of `Rattle.rfc.specs.Values`.
+-- Assumes nothing.
+use Prim.Native.Nat.{ℕ}
+use mathlib.Core.Path.{_≡_}
+use mathlib.Core.List.{List, []}
+use Rattle.rfc.specs.Numbers.{Answer, given, refused, needs}
+use Rattle.rfc.specs.Values as rfc
+use Rattle.rfc.specs.Values.{stopped, valued}
+use Rattle.values.specs.Reading.{says, Exact}
+use Rattle.values.specs.declared.answer.Value.{Value}
+use Rattle.borrowed.specs.Walked.{stopOf, shown}
+use Rattle.borrowed.specs.declared.answer.Step.{Step}
+use Rattle.borrowed.specs.declared.answer.Step.the-variants as step
+use Rattle.whole.specs.declared.Whole.{Whole}
+use Rattle.whole.specs.declared.Whole.the-variants.{Stopped, Valued, Refused, Needs}
+
+-- the bytes that a step shows: an option's value
+abbrev pub shownBy : Step → List ℕ → List ℕ → List ℕ
+shownBy (step.Stopped s at) area join = []
+shownBy (step.Found code parts len place) area join = shown parts len place area join
+shownBy (step.Refused number) area join = []
+shownBy (step.Needs len) area join = []
+
+-- of the bytes v, a value tells the answer
+pub record ValueTells (v : List ℕ) (answer : Answer rfc.Whole) (code : ℕ) (value : Value) (place : ℕ) : Type 0 where
+  pub told : given (valued code (says value v) place) ≡ answer
+  pub exact : Exact v value
+
+-- of the bytes v, the reading of a whole option tells the answer
+abbrev pub ReadWhole : List ℕ → Answer rfc.Whole → Whole → Type 0
+ReadWhole v answer (Stopped s at) = given (stopped (stopOf s) at) ≡ answer
+ReadWhole v answer (Valued code value place) = ValueTells v answer code value place
+ReadWhole v answer (Refused number) = refused number ≡ answer
+ReadWhole v answer (Needs len) = needs len ≡ answer
+
+-- Between the functions of the crate: what is answered where no option was found. (An option does not come here.)
+abbrev pub passedOn : Step → Whole
+passedOn (step.Stopped s at) = Stopped s at
+passedOn (step.Found code parts len place) = Refused 4
+passedOn (step.Refused number) = Refused number
+passedOn (step.Needs len) = Needs len
