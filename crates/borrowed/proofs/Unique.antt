@@ -25,7 +25,7 @@ use Rattle.borrowed.proofs.place_after.Kinds as place-after-kinds
 use Rattle.borrowed.proofs.place_after.Reads as place-after
 
 -- back from what is said to who said it
-stopBack : rfc.Stop → Stop
+pub stopBack : rfc.Stop → Stop
 stopBack rfc.out = Out
 stopBack rfc.end = End
 stopBack rfc.cutLength = CutLength
@@ -38,7 +38,7 @@ back (given (option code v n at)) = Found code n (length v) at
 back (refused k) = Refused k
 back (needs n) = Needs n
 
-stop-back : (s : Stop) → stopBack (stopOf s) ≡ s
+pub stop-back : (s : Stop) → stopBack (stopOf s) ≡ s
 unfolding stopBack
 stop-back Out = refl
 stop-back End = refl

@@ -1,6 +1,6 @@
 -- A writer's answers, for any write: a refusal, a success, and what its contract tells a caller.
 -- Assumes nothing.
-use mathlib.Core.Path.{_≡_, sym, _∙_}
+use mathlib.Core.Path.{_≡_, sym, _∙_, subst}
 use Prim.Native.Nat.{ℕ, _+_, _≤_}
 use mathlib.Core.List.{List}
 use lib.ListN.{length}
@@ -39,3 +39,9 @@ wrote-one {a = a} {b = b} p q = (says-one a b (p .told ∙ sym (q .told)), p .le
 pub put-over : (bytes room room′ : List ℕ) (place : ℕ) (r : Written) → place + length bytes ≤ length room
     → Wrote (writeSlice bytes room place) room room′ place r → room′ ≡ over room place bytes
 put-over bytes room room′ place r h w = w .left ∙ slice-left bytes room place (omega arith) h
+
+-- the same bytes by another name
+pub same-bytes : {bytes others room room′ : List ℕ} {place : ℕ} {r : Written} → bytes ≡ others
+    → Wrote (writeSlice bytes room place) room room′ place r → Wrote (writeSlice others room place) room room′ place r
+same-bytes {room = room} {room′ = room′} {place = place} {r = r} e w =
+    subst (λ (l : List ℕ). Wrote (writeSlice l room place) room room′ place r) e w

@@ -4,6 +4,7 @@ ghost use mathlib.Core.Path.{_≡_};
 ghost use Prim.Native.Nat.{_+_, _≤_};
 ghost use lib.ListN.{length};
 ghost use Rattle.facts.specs.Over.{over};
+ghost use Rattle.facts.specs.BigEndian.{digits, unsigned};
 ghost use Rattle.rfc.specs.Writing.{writeSlice};
 ghost use Rattle.encoder.specs.Written.{Wrote};
 
@@ -28,6 +29,30 @@ pub fn write_slice(room: &mut [u8], place: usize, bytes: &[u8]) -> Written
     let to = place + bytes.len();
     copy(bytes, room, place);
     Written::To(to)
+}
+
+// Writes the four bytes of a number in two's complement at `place`, the highest first.
+pub fn write_i32(room: &mut [u8], place: usize, number: i32) -> Written
+    ensures { λ r. ⌜ Wrote (writeSlice (digits 4 (unsigned number)) (now (room .entry)) place) (now (room .entry)) (now (room .exit)) place r ⌝ }
+{
+    let bits = bits_of(number);
+    let bytes = [
+        (bits / 16777216 % 256) as u8,
+        (bits / 65536 % 256) as u8,
+        (bits / 256 % 256) as u8,
+        (bits % 256) as u8,
+    ];
+    write_slice(room, place, &bytes)
+}
+
+// The 32 bits that stand for a number in two's complement.
+fn bits_of(number: i32) -> u32
+    ensures { λ r. ⌜ r ≡ unsigned number ⌝ }
+{
+    if number < 0 {
+        return !((!number) as u32);
+    }
+    number as u32
 }
 
 // Copies all of `from` into `to` at `place`.

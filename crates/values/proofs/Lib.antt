@@ -1,3 +1,4 @@
 pub mod RuleNumbers
 pub mod Cases
 pub mod Entries
+pub mod Unique
