@@ -1,4 +1,6 @@
 pub mod Refusals
 pub mod Order
+pub mod Reading
 pub mod Lists
 pub mod Examples
+pub mod Incident

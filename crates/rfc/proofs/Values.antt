@@ -180,7 +180,7 @@ module _ {kind width n : ℕ} (k : Listed kind width n) (v : List ℕ) (right : 
   all-numbers =
       let s = listed-size k in
       let whole : length v ≡ count * sizeOf kind =
-          sym (omega (arith, div-add-mod' (length v) (sizeOf kind), listed-rest k v right)) in
+      sym (omega (arith, div-add-mod' (length v) (sizeOf kind), listed-rest k v right)) in
       length-map (pieces width v) number
       ∙ count-whole width (s .1) v (count * n)
       (whole ∙ ap (λ (m : ℕ). count * m) (s .0) ∙ sym (mul-assoc count n width))

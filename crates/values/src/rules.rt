@@ -13,14 +13,42 @@ const AT_LEAST: u8 = 2;
 
 // The rules of plain reading, by kind 0 to 15.
 const PLAIN: [u8; 16] = [
-    MULTIPLE, EXACTLY, MULTIPLE, MULTIPLE, AT_LEAST, AT_LEAST, AT_LEAST, MULTIPLE, AT_LEAST, AT_LEAST, MULTIPLE, MULTIPLE, AT_LEAST, AT_LEAST,
-    AT_LEAST, AT_LEAST,
+    MULTIPLE, // raw
+    EXACTLY, // address
+    MULTIPLE, // addresses
+    MULTIPLE, // pairs
+    AT_LEAST, // byte
+    AT_LEAST, // yes/no
+    AT_LEAST, // u16
+    MULTIPLE, // u16 list
+    AT_LEAST, // u32
+    AT_LEAST, // i32
+    MULTIPLE, // text
+    MULTIPLE, // codes
+    AT_LEAST, // node type
+    AT_LEAST, // message type
+    AT_LEAST, // three bytes
+    AT_LEAST, // flag
 ];
 
 // The rules of strict reading, by kind 0 to 15.
 const STRICT: [u8; 16] = [
-    MULTIPLE, EXACTLY, MULTIPLE, MULTIPLE, EXACTLY, EXACTLY, EXACTLY, MULTIPLE, EXACTLY, EXACTLY, MULTIPLE, MULTIPLE, EXACTLY, EXACTLY, EXACTLY,
-    EXACTLY,
+    MULTIPLE, // raw
+    EXACTLY, // address
+    MULTIPLE, // addresses
+    MULTIPLE, // pairs
+    EXACTLY, // byte
+    EXACTLY, // yes/no
+    EXACTLY, // u16
+    MULTIPLE, // u16 list
+    EXACTLY, // u32
+    EXACTLY, // i32
+    MULTIPLE, // text
+    MULTIPLE, // codes
+    EXACTLY, // node type
+    EXACTLY, // message type
+    EXACTLY, // three bytes
+    EXACTLY, // flag
 ];
 
 // The rule for a kind.

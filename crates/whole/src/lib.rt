@@ -13,7 +13,11 @@ pub enum Whole {
     // A stop, and the place behind it.
     Stopped(Stop, usize),
     // An option's value, and the place behind the option.
-    Valued { code: u8, value: Value, place: usize },
+    Valued {
+        code: u8,
+        value: Value,
+        place: usize,
+    },
     // A refusal by its number: the step's, or else the reading's.
     Refused(u8),
     // Refusal 5, with the length that is needed.

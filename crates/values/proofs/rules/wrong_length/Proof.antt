@@ -43,14 +43,14 @@ returns-2 c = let a = c .before .before .before .before .before .args in
 rem-result : tie.Need-rem-result
 rem-result c = let a = c .before .before .before .before .before .args in
     let e = sym (c .before .before .before .rule-for .ensures) in
-    let rule = is-multiple _ (λ f. c .before .if1 .left (sym e ∙ f)) (λ f. c .if2 .left (sym e ∙ f)) in
+    let rule : ruleFor (modeOf (a .strict)) (a .kind) ≡ multiple = is-multiple _ (λ f. c .before .if1 .left (sym e ∙ f)) (λ f. c .if2 .left (sym e ∙ f)) in
     omega (arith, c .before .before .element-size .ensures, multiple-of-some (modeOf (a .strict)) (a .kind) (c .before .before .before .before .before .pre) rule)
 
 -- src/rules.rt:38:1
 returns-3 : tie.Need-returns-3
 returns-3 c = let a = c .before .before .before .before .before .args in
     let e = sym (c .before .before .before .rule-for .ensures) in
-    let rule = is-multiple _ (λ f. c .before .if1 .left (sym e ∙ f)) (λ f. c .if2 .left (sym e ∙ f)) in
+    let rule : ruleFor (modeOf (a .strict)) (a .kind) ≡ multiple = is-multiple _ (λ f. c .before .if1 .left (sym e ∙ f)) (λ f. c .if2 .left (sym e ∙ f)) in
     ap (λ (k : ℕ). not (eqb (length (now (a .value)) % k) 0)) (c .before .before .element-size .ensures)
     ∙ length-by (modeOf (a .strict)) (a .kind) (now (a .value)) multiple rule
 
