@@ -8,7 +8,8 @@ use Rattle.rfc.specs.Writing.{writeChecks, writeSlice, writeBytes, close}
 use Rattle.rfc.specs.Typed.{writeValue}
 use Rattle.rfc.specs.Routes.{writeRoutes}
 use Rattle.rfc.proofs.Walk.{needs-last}
-use Rattle.rfc.proofs.Values.{element-refused, option-refused, option-needs}
+use Rattle.rfc.proofs.Elements.{element-refused}
+use Rattle.rfc.proofs.Readings.{option-refused, option-needs}
 use Rattle.promises.specs.Order.{follows, OrderOfChecks, JoinComesLast, IndexComesLast, WalkComesFirst}
 
 pub order-of-checks : OrderOfChecks

@@ -1,22 +1,20 @@
 -- Strict reading is plain reading with more refused, by the laws of `rfc`; a number of seconds and its bytes give each other back.
 -- Assumes nothing.
 use mathlib.Core.Path.{_≡_, refl, sym, ap, _∙_}
-use Prim.Native.Nat.{ℕ, suc, _-_, _*_, _+_, _%_, _^_, _<_}
+use Prim.Native.Nat.{ℕ, _-_, _^_, _<_}
 use native.Mathlib.Omega.{arith}
 use native.Mathlib.Nat.{mod-eq-of-lt}
-use mathlib.Core.List.{List}
 use lib.IntN.{ℤ, pos, negsuc}
-use lib.ListN.{length}
 use mir.Syntax.{w32}
 use mir.Val.{SFits}
 use Rattle.facts.specs.BigEndian.{number, digits, signed, unsigned}
 use Rattle.facts.specs.Ranges.{within, lookup}
 use Rattle.facts.proofs.BigEndian.{number-below, reads-back, writes-back}
 use Rattle.facts.proofs.Signs.{signed-back, unsigned-back}
-use Rattle.rfc.specs.Numbers.{Answer, given, tooLong, noCode, checked}
+use Rattle.rfc.specs.Numbers.{given, tooLong, noCode, checked}
 use Rattle.rfc.specs.Kinds.{kinds, kindOf, sizes, sizeOf}
-use Rattle.rfc.specs.Values.{integer, Value, Mode, plain, strict, contents, valueOf, rules, ruleFor, wrongLength, notText, unclear, readChecks, read}
-use Rattle.rfc.proofs.Values.{strict-plain}
+use Rattle.rfc.specs.Values.{integer, Mode, plain, strict, contents, valueOf, rules, ruleFor, wrongLength, notText, unclear, readChecks, read}
+use Rattle.rfc.proofs.Readings.{strict-plain}
 use Rattle.promises.specs.Reading.{StrictReadsAlike, Seconds, SecondsReadBack, SecondsWriteBack}
 
 pub strict-reads-alike : StrictReadsAlike

@@ -2,9 +2,7 @@
 -- Assumes nothing.
 use mathlib.Core.Path.{_≡_, refl}
 use Prim.Native.Nat.{ℕ, _≤_, _<_}
-use lib.Dec.{lit<}
 use lib.ListN.{List·getD-eq-default}
-use Rattle.facts.specs.Ranges.{Row, lookup}
 use Rattle.facts.proofs.Ranges.{all-rows}
 use Rattle.rfc.specs.Kinds.{kinds, kindOf, sizes, sizeOf}
 

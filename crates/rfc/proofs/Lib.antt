@@ -5,6 +5,8 @@ pub mod Places
 pub mod Codes
 pub mod Text
 pub mod Values
+pub mod Elements
+pub mod Readings
 pub mod Writing
 pub mod Parts
 pub mod Lists

@@ -7,15 +7,18 @@ use mathlib.Core.List.{List, [], _∷_}
 use native.Mathlib.Omega.{arith}
 use lib.ListN.{length, take, drop, getD}
 use Rattle.facts.specs.BigEndian.{number}
-use Rattle.facts.proofs.Cells.{part-cells}
-use Rattle.rfc.specs.Numbers.{Answer, given}
+use Rattle.facts.proofs.Cells.{cells, part-cells}
+use Rattle.rfc.specs.Numbers.{Answer, given, refused}
 use Rattle.rfc.specs.Kinds.{sizeOf}
 use Rattle.rfc.specs.Values as rfc
 use Rattle.rfc.specs.Values.{numbers, numbersOf, plain, wrongLength, valueOf, elements}
-use Rattle.rfc.proofs.Values.{value, Scalar, holds, Listed, scalar-value, scalar-fits, scalar-single, listed-value, listed-some, listed-count}
-use Rattle.values.specs.Reading.{says, countOf, Named, Tells, Right}
+use Rattle.rfc.proofs.Values.{value, Scalar, holds, Listed, scalar-value, scalar-fits, scalar-single, listed-value}
+use Rattle.rfc.proofs.Elements.{listed-some, listed-count}
+use Rattle.values.specs.Reading.{says, countOf, Named, Tells, ReadAs, Right}
 use types.Run.{OneOf, miss}
 use denote.Enum.Declared.{tagOf}
+use Rattle.values.specs.declared.answer.Reading.{Reading}
+use Rattle.values.specs.declared.answer.Reading.the-variants.{Is, Refused}
 use Rattle.values.specs.declared.answer.Value.{Value}
 use Rattle.values.specs.declared.answer.Value.the-variants as case
 use Rattle.values.proofs.answer.Value.{the-type}
@@ -27,10 +30,18 @@ byte-at v at there =
     e ∙ ap number (sym (part-cells v at 1 there))
 
 -- the same answer by another name
-pub same-answer : {v : List ℕ} {a b : Answer rfc.Value} {r : Value} → a ≡ b → Tells v a r → Tells v b r
-same-answer e t = record { told = t .told ∙ e; exact = t .exact }
+pub same-answer : {v : List ℕ} {a b : Answer rfc.Value} {r : Value} → b ≡ a → Tells v a r → Tells v b r
+same-answer e t = record { told = t .told ∙ sym e; exact = t .exact }
 
-module _ (kind : ℕ) (v : List ℕ) (right : Right kind v) {k : ℕ} (is : kind ≡ k) where
+-- a reading, taken apart
+module _ (v : List ℕ) (a : Answer rfc.Value) where
+  pub is-value : {reading : Reading} {r : Value} → reading ≡ Is r → ReadAs v a reading → Tells v a r
+  is-value e t = subst (λ (x : Reading). ReadAs v a x) e t
+
+  pub is-refused : {reading : Reading} {k : ℕ} → reading ≡ Refused k → ReadAs v a reading → a ≡ refused k
+  is-refused e t = sym (subst (λ (x : Reading). ReadAs v a x) e t)
+
+module _ {kind : ℕ} {v : List ℕ} (right : Right kind v) {k : ℕ} (is : kind ≡ k) where
   -- the length by the kind's own number
   length-is : wrongLength plain k v ≡ false
   length-is = subst (λ (j : ℕ). wrongLength plain j v ≡ false) is (right .length-right)
@@ -49,8 +60,16 @@ module _ (kind : ℕ) (v : List ℕ) (right : Right kind v) {k : ℕ} (is : kind
     pub fits : size ≤ length v
     fits = scalar-fits v s length-is
 
+    -- its bytes, one by one
+    pub cells-are : take size v ≡ cells v 0 size
+    cells-are = let h = fits in part-cells v 0 size (omega arith)
+
     pub scalar : (r : Value) → says r v ≡ value k (holds s v) → countOf r ≡ 0 → Named r → Tells v (given (valueOf kind v)) r
     scalar r e none named = tells r (value k (holds s v)) e (scalar-value v s) (none ∙ sym (scalar-single v s)) named
+
+  -- one byte is its number
+  pub first-byte : Scalar k 1 → getD v 0 0 ≡ number (take 1 v)
+  first-byte s = let h = fits s in byte-at v 0 (omega arith)
 
   module _ {width n : ℕ} (l : Listed k width n) where
     pub some-size : 0 < sizeOf kind

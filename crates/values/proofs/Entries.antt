@@ -13,7 +13,9 @@ use Rattle.rfc.specs.Numbers.{given, refused}
 use Rattle.rfc.specs.Kinds.{kindOf, sizeOf}
 use Rattle.rfc.specs.Values as rfc
 use Rattle.rfc.specs.Values.{plain, wrongLength, valueOf, read, elements, elementAt, element}
-use Rattle.rfc.proofs.Values.{kind-kept, Listed, listed-count, listed-size, one-entry, pair-entries, read-right, element-there, element-none, element-given}
+use Rattle.rfc.proofs.Values.{kind-kept, Listed}
+use Rattle.rfc.proofs.Elements.{listed-count, listed-size, one-entry, pair-entries, element-there, element-none, element-given}
+use Rattle.rfc.proofs.Readings.{read-right}
 use Rattle.rfc.proofs.Values as laws
 use Rattle.values.specs.Reading.{says, countOf, Tells, ListKind, addresses, pairs, u16s, codes, Entry, entryAt}
 use Rattle.values.specs.declared.answer.Value.{Value}
@@ -26,19 +28,20 @@ last-kind pairs n₂ n₃ n₇ = absurd (n₃ refl)
 last-kind u16s n₂ n₃ n₇ = absurd (n₇ refl)
 last-kind codes n₂ n₃ n₇ = refl
 
-module _ (kind : ℕ) (v : List ℕ) (index : ℕ) (e : Entry kind v index) {k width n : ℕ} (is : kind ≡ k) (l : Listed k width n) where
+-- an element of a list that has it
+module _ {kind index : ℕ} {v : List ℕ} (e : Entry kind v index) {k width n : ℕ} (is : kind ≡ k) (l : Listed k width n) where
   right : wrongLength plain k v ≡ false
   right = subst (λ (j : ℕ). wrongLength plain j v ≡ false) is (e .length-right)
 
   below : index < length v / sizeOf k
   below = subst (λ (j : ℕ). index < j) (ap (λ (j : ℕ). length (elements (valueOf j v))) is ∙ listed-count l v right) (e .below)
 
-  module _ (size : ℕ) (s : size ≡ sizeOf kind) where
+  module _ {size : ℕ} (s : size ≡ sizeOf kind) where
     size-is : size ≡ n * width
     size-is = s ∙ ap sizeOf is ∙ listed-size l .0
 
     -- where it begins, and that it is there whole
-    pub start : index * size ≡ index * (n * width)
+    start : index * size ≡ index * (n * width)
     start = ap (λ (j : ℕ). index * j) size-is
 
     pub lies : index * size + n * width ≤ length v
@@ -52,21 +55,24 @@ module _ (kind : ℕ) (v : List ℕ) (index : ℕ) (e : Entry kind v index) {k w
   entry-is entries f =
       ap (λ (x : List ℕ). given (record { kind = k; entries = x })) (sym f) ∙ ap (λ (j : ℕ). entryAt j v index) (sym is)
 
-pub within : {kind : ℕ} → ListKind kind → (v : List ℕ) (index : ℕ) → Entry kind v index → (size : ℕ) → size ≡ sizeOf kind
-    → index * size ≤ length v
-within addresses v index e size s = omega (arith, lies 2 v index e refl laws.addresses size s)
-within pairs v index e size s = omega (arith, lies 3 v index e refl laws.pairs size s)
-within u16s v index e size s = omega (arith, lies 7 v index e refl laws.u16s size s)
-within codes v index e size s = omega (arith, lies 11 v index e refl laws.codes size s)
+within-list : {kind index size : ℕ} {v : List ℕ} → ListKind kind → Entry kind v index → size ≡ sizeOf kind → index * size ≤ length v
+within-list addresses e s = omega (arith, lies e refl laws.addresses s)
+within-list pairs e s = omega (arith, lies e refl laws.pairs s)
+within-list u16s e s = omega (arith, lies e refl laws.u16s s)
+within-list codes e s = omega (arith, lies e refl laws.codes s)
 
-module _ (kind : ℕ) (v : List ℕ) (index : ℕ) (e : Entry kind v index) (size : ℕ) (s : size ≡ sizeOf kind) where
+module _ {kind index size : ℕ} {v : List ℕ} (e : Entry kind v index) (s : size ≡ sizeOf kind) where
+  -- it begins inside, whatever the list
+  pub within : index * size ≤ length v
+  within = within-list (e .is-list) e s
+
   -- an element of one number
   pub one : {k width : ℕ} (is : kind ≡ k) → Listed k width 1 → (x : ℕ) → x ≡ number (take width (drop (index * size) v))
       → given (record { kind = k; entries = x ∷ [] }) ≡ entryAt kind v index
   one {width = width} is l x f =
-      let at : index * size ≡ index * width = start kind v index e is l size s ∙ ap (λ (j : ℕ). index * j) (one-mul width) in
-      entry-is kind v index e is l (x ∷ [])
-      (one-entry l v (right kind v index e is l) index (below kind v index e is l)
+      let at : index * size ≡ index * width = start e is l s ∙ ap (λ (j : ℕ). index * j) (one-mul width) in
+      entry-is e is l (x ∷ [])
+      (one-entry l v (right e is l) index (below e is l)
       ∙ ap (λ (j : ℕ). number (take width (drop j v)) ∷ []) (sym at)
       ∙ ap (λ (j : ℕ). j ∷ []) (sym f))
 
@@ -74,9 +80,10 @@ module _ (kind : ℕ) (v : List ℕ) (index : ℕ) (e : Entry kind v index) (siz
   pub two : kind ≡ 3 → (x y : ℕ) → x ≡ number (take 4 (drop (index * size) v)) → y ≡ number (take 4 (drop (index * size + 4) v))
       → given (record { kind = 3; entries = x ∷ y ∷ [] }) ≡ entryAt kind v index
   two is x y f g =
-      let at : index * size ≡ index * 8 = start kind v index e is laws.pairs size s in
-      entry-is kind v index e is laws.pairs (x ∷ y ∷ [])
-      (pair-entries v (right kind v index e is laws.pairs) index (below kind v index e is laws.pairs)
+      let l : Listed 3 4 2 = laws.pairs in
+      let at : index * size ≡ index * 8 = start e is l s in
+      entry-is e is l (x ∷ y ∷ [])
+      (pair-entries v (right e is l) index (below e is l)
       ∙ ap (λ (j : ℕ). number (take 4 (drop j v)) ∷ number (take 4 (drop (j + 4) v)) ∷ []) (sym at)
       ∙ sym (λ i. f i ∷ g i ∷ []))
 

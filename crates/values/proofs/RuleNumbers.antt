@@ -1,7 +1,6 @@
 -- Back from a rule's number in the tables to the rule.
 -- Assumes nothing.
 use mathlib.Core.Path.{_≡_, refl}
-use Prim.Native.Nat.{ℕ}
 use native.Mathlib.Omega.{arith}
 use Rattle.rfc.specs.Values.{Rule, exactly, atLeast, multiple}
 use Rattle.values.specs.Reading.{ruleNumber}

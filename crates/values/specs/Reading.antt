@@ -7,7 +7,7 @@ use mathlib.Core.List.{List, [], _∷_}
 use lib.ListN.{length, getD}
 use Rattle.rfc.specs.Numbers.{Answer, given, refused}
 use Rattle.rfc.specs.Values as rfc
-use Rattle.rfc.specs.Values.{Content, raw, natural, integer, truth, numbers, nothing, numbersOf, Rule, exactly, atLeast, multiple, Mode, plain, strict, elements, nodeOf, valueOf, wrongLength}
+use Rattle.rfc.specs.Values.{raw, natural, integer, truth, numbers, nothing, numbersOf, Rule, exactly, atLeast, multiple, Mode, plain, strict, elements, nodeOf, valueOf, wrongLength}
 use Rattle.values.specs.declared.answer.Node.{Node}
 use Rattle.values.specs.declared.answer.Node.the-variants.{B, P, M, H, Unknown}
 use Rattle.values.specs.declared.answer.Value.{Value}

@@ -5,10 +5,10 @@ use Prim.Native.Nat.{ℕ}
 use mathlib.Core.List.{List, [], _∷_}
 use types.Run.{OneOf, miss}
 use denote.Enum.Declared.{tagOf}
-use Rattle.rfc.specs.Numbers.{Answer, given, refused, needs}
+use Rattle.rfc.specs.Numbers.{given, refused}
 use Rattle.rfc.specs.Walk.{option}
 use Rattle.rfc.specs.Values.{Mode, read, readOption}
-use Rattle.rfc.proofs.Values.{option-stopped, option-refused, option-needs, value-refused, value-given}
+use Rattle.rfc.proofs.Readings.{option-stopped, option-refused, option-needs, value-refused, value-given}
 use Rattle.values.specs.Reading.{Tells}
 use Rattle.values.specs.declared.answer.Value.{Value}
 use Rattle.borrowed.specs.Walked.{stopOf, shown, says}
@@ -38,10 +38,10 @@ module _ (mode : Mode) (area join : List ℕ) where
   -- an option is read
   module _ (found : Step) (code parts len place : ℕ) (is : found ≡ step.Found code parts len place) where
     module _ (v : List ℕ) (shows : v ≡ shown parts len place area join) where
-      pub not-read : (number : ℕ) → refused number ≡ read mode code v → Answers found (whole.Refused number)
+      pub not-read : (number : ℕ) → read mode code v ≡ refused number → Answers found (whole.Refused number)
       not-read number e =
           subst (λ (s : Step). Answers s (whole.Refused number)) (sym is)
-          (sym (value-refused mode code _ parts place number (ap (read mode code) (sym shows) ∙ sym e)))
+          (sym (value-refused mode code _ parts place number (ap (read mode code) (sym shows) ∙ e)))
 
       pub is-read : (value : Value) → Tells v (read mode code v) value → Answers found (whole.Valued code value place)
       is-read value t =

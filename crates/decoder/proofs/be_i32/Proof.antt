@@ -1,8 +1,8 @@
 -- `be_i32` meets its contract, by the sign.
 -- Assumes nothing.
-use mathlib.Core.Path.{_∙_, sym, ap}
+use mathlib.Core.Path.{_∙_, ap}
 use Rattle.facts.specs.BigEndian.{signed}
-use Rattle.facts.proofs.Signs.{not-negative, negative}
+use Rattle.facts.proofs.Signs.{negative}
 use borrow.Author.Needs.{needs}
 use Rattle.decoder.proofs.be_i32.Statement.{statement}
 use Rattle.decoder.proofs.be_i32.Tie as tie

@@ -1,22 +1,18 @@
+-- `bits_of` meets its contract, by the sign.
+-- Assumes nothing.
 use Rattle.facts.proofs.Signs.{low-cast, low-is, high-cast, high-is}
 use Rattle.encoder.proofs.bits_of.Statement.{statement}
 use Rattle.encoder.proofs.bits_of.Tie as tie
-use Rattle.encoder.proofs.bits_of.Reads as reads
-use Rattle.encoder.proofs.bits_of.Lts as lts
 
--- src/lib.rt:53:18
 cast-result : tie.Need-cast-result
 cast-result c = low-cast (c .before .args .number) (c .before .fits .number) (c .if1 .taken)
 
--- src/lib.rt:53:9
 returns : tie.Need-returns
 returns c = low-is (c .before .args .number) (c .before .fits .number) (c .if1 .taken)
 
--- src/lib.rt:55:5
 cast-result-2 : tie.Need-cast-result-2
 cast-result-2 c = high-cast (c .before .args .number) (c .before .fits .number) (c .if1 .left)
 
--- src/lib.rt:49:1
 returns-2 : tie.Need-returns-2
 returns-2 c = high-is (c .before .args .number) (c .before .fits .number) (c .if1 .left)
 

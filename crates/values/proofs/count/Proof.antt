@@ -1,3 +1,5 @@
+-- `count` meets its contract.
+-- Assumes nothing.
 use mathlib.Core.Path.{ap}
 use Prim.Native.Nat.{ℕ, _/_}
 use lib.ListN.{length}
@@ -5,19 +7,13 @@ use denote.Ref.{now}
 use borrow.Author.Needs.{needs}
 use Rattle.values.proofs.count.Statement.{statement}
 use Rattle.values.proofs.count.Tie as tie
-use Rattle.values.proofs.count.Reads as reads
-use Rattle.values.proofs.count.Lts as lts
-use Rattle.kinds.proofs.element_size.Reads as element-size-reads
 
--- src/lib.rt:101:19
 element-size-requires : tie.Need-element-size-requires
 element-size-requires c κs = search needs
 
--- src/lib.rt:101:5
 div-result : tie.Need-div-result
 div-result c = search needs
 
--- src/lib.rt:97:1
 returns : tie.Need-returns
 returns c = ap (λ (k : ℕ). length (now (c .before .before .args .value)) / k) (c .element-size .ensures)
 

@@ -1,43 +1,34 @@
+-- `count_of` meets its contract, case by case.
+-- Assumes nothing.
 use Rattle.values.proofs.Cases.{uncounted}
 use borrow.Author.Needs.{needs}
 use Rattle.values.proofs.count_of.Statement.{statement}
 use Rattle.values.proofs.count_of.Tie as tie
-use Rattle.values.proofs.count_of.Reads as reads
-use Rattle.values.proofs.count_of.Lts as lts
 
--- src/lib.rt:153:26
 enum-known-held : tie.Need-enum-known-held
 enum-known-held c = search needs
 
--- src/lib.rt:154:22
 enum-known-held-2 : tie.Need-enum-known-held-2
 enum-known-held-2 c = search needs
 
--- src/lib.rt:155:21
 enum-known-held-3 : tie.Need-enum-known-held-3
 enum-known-held-3 c = search needs
 
--- src/lib.rt:156:22
 enum-known-held-4 : tie.Need-enum-known-held-4
 enum-known-held-4 c = search needs
 
--- src/lib.rt:149:1
 returns : tie.Need-returns
 returns c = search needs
 
--- src/lib.rt:149:1
 returns-2 : tie.Need-returns-2
 returns-2 c = search needs
 
--- src/lib.rt:149:1
 returns-3 : tie.Need-returns-3
 returns-3 c = search needs
 
--- src/lib.rt:149:1
 returns-4 : tie.Need-returns-4
 returns-4 c = search needs
 
--- src/lib.rt:149:1
 returns-5 : tie.Need-returns-5
 returns-5 c = uncounted (c .before .args .held) (c .match .keys5)
 

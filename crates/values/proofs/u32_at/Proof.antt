@@ -1,3 +1,5 @@
+-- `u32_at` meets its contract.
+-- Assumes nothing.
 use mathlib.Core.Path.{sym, ap, _∙_}
 use denote.Ref.{now}
 use Rattle.facts.specs.BigEndian.{number}
@@ -5,45 +7,34 @@ use Rattle.facts.proofs.Cells.{part-cells}
 use borrow.Author.Needs.{needs}
 use Rattle.values.proofs.u32_at.Statement.{statement}
 use Rattle.values.proofs.u32_at.Tie as tie
-use Rattle.values.proofs.u32_at.Reads as reads
-use Rattle.values.proofs.u32_at.Lts as lts
-use Rattle.decoder.proofs.be_u32.Reads as be-u32-reads
 
--- src/lib.rt:130:21
 shared-slice-read-be-u32 : tie.Need-shared-slice-read-be-u32
 shared-slice-read-be-u32 c = search needs
 
--- src/lib.rt:130:38
 add-be-u32 : tie.Need-add-be-u32
 add-be-u32 c = search needs
 
--- src/lib.rt:130:32
 shared-slice-read-be-u32-2 : tie.Need-shared-slice-read-be-u32-2
 shared-slice-read-be-u32-2 c = search needs
 
--- src/lib.rt:130:53
 add-be-u32-2 : tie.Need-add-be-u32-2
 add-be-u32-2 c = search needs
 
--- src/lib.rt:130:47
 shared-slice-read-be-u32-3 : tie.Need-shared-slice-read-be-u32-3
 shared-slice-read-be-u32-3 c = search needs
 
--- src/lib.rt:130:68
 add-be-u32-3 : tie.Need-add-be-u32-3
 add-be-u32-3 c = search needs
 
--- src/lib.rt:130:62
 shared-slice-read-be-u32-4 : tie.Need-shared-slice-read-be-u32-4
 shared-slice-read-be-u32-4 c = search needs
 
--- src/lib.rt:130:5
 be-u32-requires : tie.Need-be-u32-requires
 be-u32-requires c κs = search needs
 
--- src/lib.rt:126:1
 returns : tie.Need-returns
-returns c = let a = c .before .before .before .before .before .before .args in c .be-u32 .ensures ∙ ap number (sym (part-cells (now (a .value)) (a .at) 4 (search needs)))
+returns c = let a = c .before .before .before .before .before .before .args in
+    c .be-u32 .ensures ∙ ap number (sym (part-cells (now (a .value)) (a .at) 4 (search needs)))
 
 pub u32-at-spec : {M : Type 1} → statement M
 u32-at-spec =

@@ -1,35 +1,30 @@
+-- `unclear` meets its contract, test by test.
+-- Assumes nothing.
 use mathlib.Core.Path.{sym, ap, _∙_}
 use mathlib.Core.Bool.{Bool}
 use denote.Ref.{now}
 use Rattle.rfc.specs.Values as rfc
-use Rattle.rfc.proofs.Values.{plain-clear, other-clear, yes-no, nothing-clear}
+use Rattle.rfc.proofs.Readings.{plain-clear, other-clear, yes-no, nothing-clear}
 use Rattle.values.specs.Reading.{modeOf}
 use borrow.Author.Needs.{needs}
 use Rattle.values.proofs.unclear.Statement.{statement}
 use Rattle.values.proofs.unclear.Tie as tie
-use Rattle.values.proofs.unclear.Reads as reads
-use Rattle.values.proofs.unclear.Lts as lts
 
--- src/lib.rt:60:9
 returns : tie.Need-returns
 returns c = let a = c .before .args in sym (other-clear (modeOf (a .strict)) (a .kind) (now (a .value)) (c .if1 .taken))
 
--- src/lib.rt:63:9
 returns-2 : tie.Need-returns-2
 returns-2 c = let a = c .before .before .args in
     sym (nothing-clear (modeOf (a .strict)) (a .kind) (now (a .value)) (c .before .if1 .left) (c .if2 .taken))
 
--- src/lib.rt:66:16
 shared-slice-read-result : tie.Need-shared-slice-read-result
 shared-slice-read-result c = search needs
 
--- src/lib.rt:66:9
 returns-3 : tie.Need-returns-3
 returns-3 c = let a = c .before .before .before .before .args in
     sym (ap (λ (s : Bool). rfc.unclear (modeOf s) (a .kind) (now (a .value))) (c .before .if3 .taken)
     ∙ yes-no (a .kind) (now (a .value)) (c .before .before .before .if1 .left))
 
--- src/lib.rt:56:1
 returns-4 : tie.Need-returns-4
 returns-4 c = let a = c .before .before .before .args in
     sym (ap (λ (s : Bool). rfc.unclear (modeOf s) (a .kind) (now (a .value))) (c .if3 .left) ∙ plain-clear (a .kind) (now (a .value)))

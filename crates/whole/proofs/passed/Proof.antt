@@ -1,40 +1,32 @@
+-- `passed` meets its contract, case by case.
+-- Assumes nothing.
 use mathlib.Core.Path.{sym, ap}
 use Rattle.whole.specs.Whole.{passedOn}
 use borrow.Author.Needs.{needs}
 use Rattle.whole.proofs.passed.Statement.{statement}
 use Rattle.whole.proofs.passed.Tie as tie
-use Rattle.whole.proofs.passed.Reads as reads
-use Rattle.whole.proofs.passed.Lts as lts
 
--- src/lib.rt:48:23
 enum-known-found : tie.Need-enum-known-found
 enum-known-found c = search needs
 
--- src/lib.rt:49:23
 enum-known-found-2 : tie.Need-enum-known-found-2
 enum-known-found-2 c = search needs
 
--- src/lib.rt:50:21
 enum-known-found-3 : tie.Need-enum-known-found-3
 enum-known-found-3 c = search needs
 
--- src/lib.rt:57:14
 enum-told : tie.Need-enum-told
 enum-told c = search needs
 
--- src/lib.rt:44:1
 returns : tie.Need-returns
 returns c = sym (ap passedOn (c .before .found .given .1))
 
--- src/lib.rt:44:1
 returns-2 : tie.Need-returns-2
 returns-2 c = sym (ap passedOn (c .before .found2 .given .1))
 
--- src/lib.rt:44:1
 returns-3 : tie.Need-returns-3
 returns-3 c = sym (ap passedOn (c .before .found3 .given .1))
 
--- src/lib.rt:44:1
 returns-4 : tie.Need-returns-4
 returns-4 c = search needs
 

@@ -1,4 +1,6 @@
-use mathlib.Core.Path.{_≡_, sym, ap, _∙_}
+-- `rule_for` meets its contract: the definition, computed at each of the 16 kinds, is the table of the mode.
+-- Assumes nothing.
+use mathlib.Core.Path.{sym, ap, _∙_}
 use mathlib.Core.Bool.{Bool}
 use Prim.Native.Nat.{ℕ}
 use Rattle.facts.specs.Ranges.{lookup, within}
@@ -8,25 +10,19 @@ use Rattle.values.specs.Reading.{modeOf, ruleNumber}
 use borrow.Author.Needs.{needs}
 use Rattle.values.proofs.rules.rule_for.Statement.{statement}
 use Rattle.values.proofs.rules.rule_for.Tie as tie
-use Rattle.values.proofs.rules.rule_for.Reads as reads
-use Rattle.values.proofs.rules.rule_for.Lts as lts
 
--- src/rules.rt:32:16
 array-read-result : tie.Need-array-read-result
 array-read-result c = search needs
 
--- src/rules.rt:32:9
 returns : tie.Need-returns
 unfolding ruleFor rules lookup within
 returns c = let a = c .before .args in
     at (λ (k : ℕ). ruleNumber (ruleFor strict k)) 16 (a .kind) (search needs)
     ∙ ap (λ (s : Bool). ruleNumber (ruleFor (modeOf s) (a .kind))) (sym (c .if1 .taken))
 
--- src/rules.rt:34:5
 array-read-result-2 : tie.Need-array-read-result-2
 array-read-result-2 c = search needs
 
--- src/rules.rt:27:1
 returns-2 : tie.Need-returns-2
 unfolding ruleFor rules lookup within
 returns-2 c = let a = c .before .args in
