@@ -78,7 +78,8 @@ impl Header {
 
     pub const CHADDR_SIZE: usize = 16;
 
-    pub const SNAME: usize = 44;
+    // 44, behind chaddr's field, whatever hlen says.
+    pub const SNAME: usize = Header::CHADDR + Header::CHADDR_SIZE;
 
     pub const SNAME_SIZE: usize = 64;
 
@@ -90,8 +91,8 @@ impl Header {
 
     pub const MAGIC_SIZE: usize = 4;
 
-    // Behind the magic.
-    pub const OPTIONS: usize = 240;
+    // 240, behind the magic.
+    pub const OPTIONS: usize = Header::MAGIC + Header::MAGIC_SIZE;
 
     pub fn op(message: &[u8]) -> Number
         ensures { λ r. ⌜ says r ≡ rfc.field rfc.op (now (message .entry)) ⌝ }
