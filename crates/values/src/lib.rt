@@ -46,7 +46,7 @@ pub fn read(code: u8, value: &[u8], strict: bool) -> Reading
 fn not_text(kind: u8, value: &[u8]) -> bool
     ensures { λ r. ⌜ r ≡ rfc.notText kind (now (value .entry)) ⌝ }
 {
-    if kind != 10 {
+    if kind != kinds::TEXT {
         return false;
     }
     !text::is_utf8(value)
@@ -56,7 +56,7 @@ fn not_text(kind: u8, value: &[u8]) -> bool
 fn unclear(kind: u8, value: &[u8], strict: bool) -> bool
     ensures { λ r. ⌜ r ≡ rfc.unclear (modeOf strict) kind (now (value .entry)) ⌝ }
 {
-    if kind != 5 {
+    if kind != kinds::YES_NO {
         return false;
     }
     if value.len() == 0 {
@@ -74,21 +74,21 @@ fn value_of(kind: u8, value: &[u8]) -> Value
     ensures { λ r. ⌜ Tells (now (value .entry)) (given (rfc.valueOf kind (now (value .entry)))) r ⌝ }
 {
     match kind {
-        0 => Value::Raw,
-        1 => Value::Address(u32_at(value, 0)),
-        2 => Value::Addresses(count(kind, value)),
-        3 => Value::Pairs(count(kind, value)),
-        4 => Value::Byte(value[0]),
-        5 => Value::YesNo(value[0] == 1),
-        6 => Value::U16(u16_at(value, 0)),
-        7 => Value::U16s(count(kind, value)),
-        8 => Value::U32(u32_at(value, 0)),
-        9 => Value::I32(decoder::be_i32(value[0], value[1], value[2], value[3])),
-        10 => Value::Text,
-        11 => Value::Codes(count(kind, value)),
-        12 => Value::NodeType(node_of(value[0])),
-        13 => Value::MessageType(value[0]),
-        14 => Value::ThreeBytes(value[0], value[1], value[2]),
+        kinds::RAW => Value::Raw,
+        kinds::ADDRESS => Value::Address(u32_at(value, 0)),
+        kinds::ADDRESSES => Value::Addresses(count(kind, value)),
+        kinds::PAIRS => Value::Pairs(count(kind, value)),
+        kinds::BYTE => Value::Byte(value[0]),
+        kinds::YES_NO => Value::YesNo(value[0] == 1),
+        kinds::U16 => Value::U16(u16_at(value, 0)),
+        kinds::U16S => Value::U16s(count(kind, value)),
+        kinds::U32 => Value::U32(u32_at(value, 0)),
+        kinds::I32 => Value::I32(decoder::be_i32(value[0], value[1], value[2], value[3])),
+        kinds::TEXT => Value::Text,
+        kinds::CODES => Value::Codes(count(kind, value)),
+        kinds::NODE_TYPE => Value::NodeType(node_of(value[0])),
+        kinds::MESSAGE_TYPE => Value::MessageType(value[0]),
+        kinds::THREE_BYTES => Value::ThreeBytes(value[0], value[1], value[2]),
         _ => Value::Flag,
     }
 }
@@ -165,9 +165,9 @@ fn entry(kind: u8, value: &[u8], index: usize) -> Element
 {
     let at = index * kinds::element_size(kind);
     match kind {
-        2 => Element::Address(u32_at(value, at)),
-        3 => Element::Pair(u32_at(value, at), u32_at(value, at + 4)),
-        7 => Element::U16(u16_at(value, at)),
+        kinds::ADDRESSES => Element::Address(u32_at(value, at)),
+        kinds::PAIRS => Element::Pair(u32_at(value, at), u32_at(value, at + 4)),
+        kinds::U16S => Element::U16(u16_at(value, at)),
         _ => Element::Code(value[at]),
     }
 }
