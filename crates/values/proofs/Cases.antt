@@ -1,13 +1,13 @@
 -- What each kind's case tells of a value whose length is right.
 -- Assumes nothing.
 use mathlib.Core.Path.{_≡_, refl, sym, ap, _∙_, subst}
-use Prim.Native.Nat.{ℕ, _+_, _*_, _/_, _≤_, _<_}
+use Prim.Native.Nat.{ℕ, _/_, _≤_, _<_}
 use mathlib.Core.Bool.{false}
 use mathlib.Core.List.{List, [], _∷_}
 use native.Mathlib.Omega.{arith}
-use lib.ListN.{length, take, drop, getD}
+use lib.ListN.{length, take, getD}
 use Rattle.facts.specs.BigEndian.{number}
-use Rattle.facts.proofs.Cells.{cells, part-cells}
+use Rattle.facts.proofs.Cells.{cells, part-cells, byte-at}
 use Rattle.rfc.specs.Numbers.{Answer, given, refused}
 use Rattle.rfc.specs.Kinds.{sizeOf}
 use Rattle.rfc.specs.Values as rfc
@@ -22,12 +22,6 @@ use Rattle.values.specs.declared.answer.Reading.the-variants.{Is, Refuse
 use Rattle.values.specs.declared.answer.Value.{Value}
 use Rattle.values.specs.declared.answer.Value.the-variants as case
 use Rattle.values.proofs.answer.Value.{the-type}
-
--- a byte as a number
-pub byte-at : (v : List ℕ) (at : ℕ) → at + 1 ≤ length v → getD v at 0 ≡ number (take 1 (drop at v))
-byte-at v at there =
-    let e : getD v at 0 ≡ 0 * 256 + getD v at 0 = omega arith in
-    e ∙ ap number (sym (part-cells v at 1 there))
 
 -- the same answer by another name
 pub same-answer : {v : List ℕ} {a b : Answer rfc.Value} {r : Value} → b ≡ a → Tells v a r → Tells v b r

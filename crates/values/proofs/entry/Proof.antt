@@ -4,7 +4,7 @@ use native.Mathlib.Omega.{arith}
 use denote.Ref.{now}
 use Rattle.rfc.proofs.Values as laws
 use Rattle.values.specs.Reading.{addresses, pairs, u16s, codes}
-use Rattle.values.proofs.Cases.{byte-at}
+use Rattle.facts.proofs.Cells.{byte-at}
 use Rattle.values.proofs.Entries.{last-kind, lies, within, one, two}
 use borrow.Author.Needs.{needs}
 use Rattle.values.proofs.entry.Statement.{statement}
