@@ -1,4 +1,5 @@
-// The walk over an area of options, as the crate's `DhcpOptionIterator::next` has it, by value: one call from a place.
+// A message that is lent: its fixed header (`header`), and the walk over its area of options as the crate's `DhcpOptionIterator::next` has
+// it, by value: one call from a place.
 pub mod answer;
 pub mod header;
 mod parts;

@@ -3,10 +3,9 @@
 use mathlib.Core.Path.{_≡_, refl, sym, ap, _∙_}
 use Prim.Native.Nat.{ℕ}
 use mathlib.Core.Bool.{cond}
-use mathlib.Core.List.{List, [], _∷_}
+use mathlib.Core.List.{List}
 use lib.Dec.{eqb}
 use lib.ListN.{length, getD}
-use Rattle.facts.specs.Ranges.{row, lookup, within}
 use Rattle.facts.proofs.Unique.{Unique}
 use Rattle.rfc.specs.Numbers.{Answer, given, refused, needs}
 use Rattle.rfc.specs.Values as rfc
@@ -45,26 +44,23 @@ node-back (Unknown n) = refl
 backIn : ℕ → Content → Value
 backIn kind (raw l) = cond (eqb kind 0) case.Raw (cond (eqb kind 10) case.Text (case.ThreeBytes (getD l 0 0) (getD l 1 0) (getD l 2 0)))
 backIn kind (natural n) =
-    lookup (case.MessageType n)
-    (row 1 1 (case.Address n)
-    ∷ row 4 4 (case.Byte n)
-    ∷ row 6 6 (case.U16 n)
-    ∷ row 8 8 (case.U32 n)
-    ∷ row 12 12 (case.NodeType (nodeBack (nodeOf n)))
-    ∷ [])
-    kind
+    cond (eqb kind 1) (case.Address n)
+    (cond (eqb kind 4) (case.Byte n)
+    (cond (eqb kind 6) (case.U16 n)
+    (cond (eqb kind 8) (case.U32 n)
+    (cond (eqb kind 12) (case.NodeType (nodeBack (nodeOf n))) (case.MessageType n)))))
 backIn kind (integer z) = case.I32 z
 backIn kind (truth t) = case.YesNo t
 backIn kind (numbers l) =
     let count = length (elements (record { kind = kind; content = numbers l })) in
-    lookup (case.Codes count) (row 2 2 (case.Addresses count) ∷ row 3 3 (case.Pairs count) ∷ row 7 7 (case.U16s count) ∷ []) kind
+    cond (eqb kind 2) (case.Addresses count) (cond (eqb kind 3) (case.Pairs count) (cond (eqb kind 7) (case.U16s count) (case.Codes count)))
 backIn kind nothing = case.Flag
 
 pub back : rfc.Value → Value
 back x = backIn (x .kind) (x .content)
 
 pub says-back : (r : Value) (v : List ℕ) → Exact v r → back (says r v) ≡ r
-unfolding back backIn lookup within
+unfolding back backIn
 says-back case.Raw v e = refl
 says-back (case.Address n) v e = refl
 says-back (case.Addresses count) v e = ap (λ (n : ℕ). case.Addresses n) (sym (e .counted))
@@ -97,14 +93,14 @@ reading-back v a (Refused k) t = ap readingBack (sym t)
 elementBack : Answer rfc.Element → Element
 elementBack (given e) =
     let first = getD (e .entries) 0 0 in
-    lookup (element.Code first)
-    (row 2 2 (element.Address first) ∷ row 3 3 (element.Pair first (getD (e .entries) 1 0)) ∷ row 7 7 (element.U16 first) ∷ [])
-    (e .kind)
+    cond (eqb (e .kind) 2) (element.Address first)
+    (cond (eqb (e .kind) 3) (element.Pair first (getD (e .entries) 1 0))
+    (cond (eqb (e .kind) 7) (element.U16 first) (element.Code first)))
 elementBack (refused k) = element.Refused k
 elementBack (needs n) = element.Refused n
 
 element-back : (r : Element) → elementBack (elementSays r) ≡ r
-unfolding elementBack lookup within
+unfolding elementBack
 element-back (element.Address n) = refl
 element-back (element.Pair a b) = refl
 element-back (element.U16 n) = refl
