@@ -6,7 +6,7 @@ use mathlib.Core.Bool.{false}
 use mathlib.Core.List.{List}
 use native.Mathlib.Omega.{arith}
 use borrow.Author.Tests.{ltb-false, eqb-true, not-false}
-use lib.Dec.{eqb, ltb}
+use lib.Dec.{eqb}
 use lib.ListN.{length, take}
 use Rattle.facts.specs.BigEndian.{number, signed}
 use Rattle.facts.specs.Ranges.{lookup, within}
@@ -107,20 +107,17 @@ module _ (v : List ℕ) where
   listed-value codes = refl
 
   -- a scalar whose length is right has all its bytes
-  long-enough : (size : ℕ) → ltb (length v) size ≡ false → size ≤ length v
-  long-enough size e = ltb-false (length v) size e
-
   pub scalar-fits : {kind size : ℕ} → Scalar kind size → wrongLength plain kind v ≡ false → size ≤ length v
   unfolding wrongLength ruleFor rules lookup within sizeOf sizes
   scalar-fits address e = let l : length v ≡ 4 = eqb-true (length v) 4 (not-false _ e) in omega arith
-  scalar-fits byte e = long-enough 1 e
-  scalar-fits yesNo e = long-enough 1 e
-  scalar-fits u16 e = long-enough 2 e
-  scalar-fits u32 e = long-enough 4 e
-  scalar-fits i32 e = long-enough 4 e
-  scalar-fits nodeType e = long-enough 1 e
-  scalar-fits messageType e = long-enough 1 e
-  scalar-fits threeBytes e = long-enough 3 e
+  scalar-fits byte e = ltb-false (length v) 1 e
+  scalar-fits yesNo e = ltb-false (length v) 1 e
+  scalar-fits u16 e = ltb-false (length v) 2 e
+  scalar-fits u32 e = ltb-false (length v) 4 e
+  scalar-fits i32 e = ltb-false (length v) 4 e
+  scalar-fits nodeType e = ltb-false (length v) 1 e
+  scalar-fits messageType e = ltb-false (length v) 1 e
+  scalar-fits threeBytes e = ltb-false (length v) 3 e
 
 -- the node types by their bytes
 pub named : (nodeOf 1 ≡ bNode) × (nodeOf 2 ≡ pNode) × (nodeOf 4 ≡ mNode) × (nodeOf 8 ≡ hNode)
