@@ -33,7 +33,7 @@ module _ (area join : List ℕ) (a : Answer rfc.Found) where
   asks n e = record { told = sym e; inside = tt; kept = sym (ap (λ (x : Answer rfc.Found). joinAfter x join) e ∙ needs-keeps join n) }
 
   module _ (code : ℕ) (v : List ℕ) (parts len place : ℕ) (e : a ≡ given (option code v parts place)) where
-    pub finds-one : parts ≤ 1 → len ≤ place → place ≤ length area → take len (drop (place - len) area) ≡ v
+    finds-one : parts ≤ 1 → len ≤ place → place ≤ length area → take len (drop (place - len) area) ≡ v
         → Walked area join join (Found code parts len place) a
     finds-one p h g s =
         let there = part-there area (place - len) len (omega arith) in
@@ -43,7 +43,7 @@ module _ (area join : List ℕ) (a : Answer rfc.Found) where
           kept = sym (ap (λ (x : Answer rfc.Found). joinAfter x join) e ∙ one-keeps join code v parts place p);
         }
 
-    pub finds-many : (join′ : List ℕ) → 1 < parts → len ≤ place → place ≤ length area → len ≡ length v → len ≤ length join
+    finds-many : (join′ : List ℕ) → 1 < parts → len ≤ place → place ≤ length area → len ≡ length v → len ≤ length join
         → join′ ≡ over join 0 v → Walked area join join′ (Found code parts len place) a
     finds-many join′ p h g l f j =
         let fits : 0 + length v ≤ length join = omega arith in

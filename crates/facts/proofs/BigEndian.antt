@@ -19,7 +19,7 @@ some zero = lit< tt
 some (suc w) = omega (arith, pow-succ' 256 w, some w)
 
 -- what stands before goes up by the width
-pub number-from : (h : ℕ) (xs : List ℕ) → numberFrom h xs ≡ h * 256 ^ length xs + number xs
+number-from : (h : ℕ) (xs : List ℕ) → numberFrom h xs ≡ h * 256 ^ length xs + number xs
 number-from h [] = omega arith
 number-from h (x ∷ xs) =
     let c = 256 ^ length xs in

@@ -91,8 +91,8 @@ module _ (size : ℕ) (some : 0 < size) where
   count-whole l n e =
       count-pieces l ∙ ap (λ (k : ℕ). (k + (size - 1)) / size) e ∙ digits-div n (omega arith)
 
-  -- the pieces behind the first k, and the first k
-  pub drop-pieces : (k : ℕ) (l : List ℕ) → drop k (pieces size l) ≡ pieces size (drop (k * size) l)
+  -- the pieces behind the first k
+  drop-pieces : (k : ℕ) (l : List ℕ) → drop k (pieces size l) ≡ pieces size (drop (k * size) l)
   drop-pieces zero l = ap (λ (n : ℕ). pieces size (drop n l)) (let z : 0 ≡ 0 * size = omega arith in z)
   drop-pieces (suc k) [] =
       ap (drop (suc k)) (pieces-none size) ∙ sym (ap (pieces size) (drop-nil (suc k * size)) ∙ pieces-none size)

@@ -63,10 +63,10 @@ allBelow most other [] = ltb other most
 allBelow most other (row l h answer ∷ rows) = ltb answer most && allBelow most other rows
 
 -- then so is the answer to any number
-pub all-rows : (most other : ℕ) (rows : List (Row ℕ)) (n : ℕ) → allBelow most other rows ≡ true → lookup other rows n < most
+pub lookup-below : (most other : ℕ) (rows : List (Row ℕ)) (n : ℕ) → allBelow most other rows ≡ true → lookup other rows n < most
 unfolding lookup
-all-rows most other [] n e = ltb-true other most e
-all-rows most other (row l h a ∷ rows) n e = go (ltb a most) refl e (all-rows most other rows n) (within l h n)
+lookup-below most other [] n e = ltb-true other most e
+lookup-below most other (row l h a ∷ rows) n e = go (ltb a most) refl e (lookup-below most other rows n) (within l h n)
   where
     go : (t : Bool) → ltb a most ≡ t → (t && allBelow most other rows) ≡ true → (allBelow most other rows ≡ true → lookup other rows n < most)
         → (u : Bool) → cond u a (lookup other rows n) < most

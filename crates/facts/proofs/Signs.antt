@@ -16,7 +16,7 @@ use mir.Facts.{toZ-ofZ, toZ-pos}
 use Rattle.facts.specs.BigEndian.{signed, unsigned, pickInt}
 
 -- from bits to a number: below 2 ^ 31 they are it
-pub not-negative : (x : ℕ) → x < 2 ^ 31 → signed x ≡ pos x
+not-negative : (x : ℕ) → x < 2 ^ 31 → signed x ≡ pos x
 not-negative x h = ap (λ (t : Bool). pickInt t (pos x) (negsuc (2 ^ 32 - suc x))) (lt-ltb x (2 ^ 31) h)
 
 -- from 2 ^ 31 on, it is the complement of what the complemented bits are

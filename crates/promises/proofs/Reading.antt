@@ -1,7 +1,11 @@
 -- Strict reading is plain reading with more refused, by the laws of `rfc`; a number of seconds and its bytes give each other back.
 -- Assumes nothing.
 use mathlib.Core.Path.{_≡_, refl, sym, ap, _∙_}
-use Prim.Native.Nat.{ℕ, _-_, _^_, _<_}
+use Prim.Native.Nat.{ℕ, zero, suc, _-_, _^_, _<_}
+use mathlib.Core.List.{List, [], _∷_}
+use lib.Dec.{lit<}
+use lib.ListN.{length, getD}
+use lib.Seq.{take-all}
 use native.Mathlib.Omega.{arith}
 use native.Mathlib.Nat.{mod-eq-of-lt}
 use lib.IntN.{ℤ, pos, negsuc}
@@ -13,8 +17,10 @@ use Rattle.facts.proofs.BigEndian.{number-below, reads-back, writes-back}
 use Rattle.facts.proofs.Signs.{signed-back, unsigned-back}
 use Rattle.rfc.specs.Numbers.{given, tooLong, noCode, checked}
 use Rattle.rfc.specs.Kinds.{kinds, kindOf, sizes, sizeOf}
-use Rattle.rfc.specs.Values.{integer, Mode, plain, strict, contents, valueOf, rules, ruleFor, wrongLength, notText, unclear, readChecks, read}
-use Rattle.rfc.proofs.Readings.{strict-plain}
+use Rattle.rfc.specs.Values.{Content, raw, natural, integer, truth, numbers, nothing, Value, Mode, plain, strict, contents, valueOf, rules, ruleFor, wrongLength, notText, unclear, readChecks, read}
+use Rattle.rfc.specs.Lists.{Bytes}
+use Rattle.rfc.proofs.Values.{i32, scalar-value}
+use Rattle.rfc.proofs.Readings.{strict-plain, read-right}
 use Rattle.promises.specs.Reading.{StrictReadsAlike, Seconds, SecondsReadBack, SecondsWriteBack}
 
 pub strict-reads-alike : StrictReadsAlike
@@ -41,8 +47,35 @@ seconds-read-back mode z h =
     four mode n
     ∙ ap (λ (x : ℤ). given (record { kind = 9; content = integer x })) (ap signed same ∙ signed-back z (fits z h))
 
+-- a byte at any place
+byte-below : (v : List ℕ) → Bytes v → (i : ℕ) → getD v i 0 < 256
+byte-below [] b i = lit< tt
+byte-below (x ∷ v) b zero = b .0
+byte-below (x ∷ v) b (suc i) = byte-below v (b .1) i
+
+-- the number that a value holds
+held : Content → ℤ
+held (raw v) = pos 0
+held (natural n) = pos 0
+held (integer z) = z
+held (truth t) = pos 0
+held (numbers l) = pos 0
+held nothing = pos 0
+
+-- what the code 2 reads as is the number of its four bytes
+is-number : (mode : Mode) (v : List ℕ) (z : ℤ) → length v ≡ 4 → read mode 2 v ≡ given (record { kind = 9; content = integer z })
+    → signed (number v) ≡ z
+unfolding held within lookup kinds kindOf
+is-number mode v z long e =
+    ap (λ (l : List ℕ). signed (number l)) (sym (take-all 4 v (omega arith)))
+    ∙ ap (λ (x : Value). held (x .content)) (sym (scalar-value v i32) ∙ read-right mode 2 v _ e .1)
+
 pub seconds-write-back : SecondsWriteBack
-seconds-write-back v bytes four-bytes =
+seconds-write-back mode v z b long e =
+    let bytes = byte-below v b in
     let n : ℕ = number v in
-    let small : n < 2 ^ 32 = omega (arith, number-below v bytes, ap (λ (k : ℕ). 256 ^ k) four-bytes) in
-    ap (digits 4) (unsigned-back n small) ∙ ap (λ (k : ℕ). digits k n) (sym four-bytes) ∙ writes-back 0 v bytes
+    let small : n < 2 ^ 32 = omega (arith, number-below v bytes, ap (λ (k : ℕ). 256 ^ k) long) in
+    ap (λ (x : ℤ). digits 4 (unsigned x)) (sym (is-number mode v z long e))
+    ∙ ap (digits 4) (unsigned-back n small)
+    ∙ ap (λ (k : ℕ). digits k n) (sym long)
+    ∙ writes-back 0 v bytes

@@ -10,14 +10,15 @@ use Rattle.rfc.specs.Header.{Part, part, op, htype, hlen, hops, xid, secs, flag
 use Rattle.rfc.specs.Walk.{stop, end}
 use Rattle.rfc.specs.Lists.{listing}
 
--- a reply with this hlen, zeros up to the magic, and so many bytes behind it
+-- a reply with hlen n: zeros up to the magic, and these bytes behind it
 abbrev pub reply : ℕ → List ℕ → List ℕ
 reply n behind = 2 ∷ 1 ∷ n ∷ [] ++ replicate 233 0 ++ magic ++ behind
 
--- one option and its End
+-- behind the magic stand one option and its End
 abbrev pub incident : List ℕ
 incident = reply 255 (53 ∷ 1 ∷ 5 ∷ 255 ∷ [])
 
+-- the same with 39 bytes more
 abbrev pub longer : List ℕ
 longer = incident ++ replicate 39 7
 
@@ -25,6 +26,7 @@ longer = incident ++ replicate 39 7
 abbrev pub fields : List ℕ → List (Answer ℕ)
 fields m = map (λ (f : Part). field f m) (op ∷ htype ∷ hlen ∷ hops ∷ xid ∷ secs ∷ flags ∷ ciaddr ∷ yiaddr ∷ siaddr ∷ giaddr ∷ [])
 
+-- the address is refused, and all else reads
 abbrev pub Incident : Type 0
 Incident =
     (length incident ≡ 244)

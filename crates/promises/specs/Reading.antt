@@ -5,11 +5,13 @@ use Prim.Native.Nat.{ℕ, _^_, _<_}
 use mathlib.Core.Path.{_≡_}
 use mathlib.Core.List.{List}
 use lib.IntN.{ℤ, pos, negsuc}
-use lib.ListN.{length, getD}
-use Rattle.facts.specs.BigEndian.{number, digits, signed, unsigned}
+use lib.ListN.{length}
+use Rattle.facts.specs.BigEndian.{digits, unsigned}
 use Rattle.rfc.specs.Numbers.{given}
 use Rattle.rfc.specs.Values.{integer, Value, Mode, plain, strict, read}
+use Rattle.rfc.specs.Lists.{Bytes}
 
+-- the refusals of strict reading come on top: no value is read in another way
 abbrev pub StrictReadsAlike : Type 0
 StrictReadsAlike = (code : ℕ) (v : List ℕ) (value : Value) → read strict code v ≡ given value → read plain code v ≡ given value
 
@@ -22,6 +24,8 @@ Seconds (negsuc n) = n < 2 ^ 31
 abbrev pub SecondsReadBack : Type 0
 SecondsReadBack = (mode : Mode) (z : ℤ) → Seconds z → read mode 2 (digits 4 (unsigned z)) ≡ given (record { kind = 9; content = integer z })
 
--- and four bytes are those of the number that they read as
+-- and what four bytes read as has these four bytes
 abbrev pub SecondsWriteBack : Type 0
-SecondsWriteBack = (v : List ℕ) → ((i : ℕ) → getD v i 0 < 256) → length v ≡ 4 → digits 4 (unsigned (signed (number v))) ≡ v
+SecondsWriteBack =
+    (mode : Mode) (v : List ℕ) (z : ℤ) → Bytes v → length v ≡ 4 → read mode 2 v ≡ given (record { kind = 9; content = integer z })
+    → digits 4 (unsigned z) ≡ v

@@ -50,7 +50,7 @@ listed-rest u16s v e = eqb-true (length v % 2) 0 (not-false _ e)
 listed-rest codes v e = eqb-true (length v % 1) 0 (not-false _ e)
 
 -- the number at an index of some numbers
-pub number-at : (width : ℕ) → 0 < width → (v : List ℕ) (k : ℕ) → getD (numbersOf width v) k 0 ≡ number (take width (drop (k * width) v))
+number-at : (width : ℕ) → 0 < width → (v : List ℕ) (k : ℕ) → getD (numbersOf width v) k 0 ≡ number (take width (drop (k * width) v))
 unfolding numbersOf
 number-at width some v k = List·getD-map number (pieces width v) k [] ∙ ap number (piece-at width some k v)
 

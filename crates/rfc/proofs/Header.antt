@@ -41,7 +41,7 @@ module _ (message : List ℕ) where
     unfolding field
     field-given c = clears _ c
 
-    pub refused-field : (k : ℕ) → field f message ≡ refused k → Refuses (messageChecks message) k
+    refused-field : (k : ℕ) → field f message ≡ refused k → Refuses (messageChecks message) k
     unfolding field
     refused-field k e = refuser (messageChecks message) (number (bytesOf f message)) k e
 

@@ -14,10 +14,10 @@ use Rattle.rfc.specs.Walk.{Run, cut, run, extend, furtherIn, further, jo
 use Rattle.rfc.proofs.Walk.{further-none, further-other, further-no-length, further-no-value, further-more, walk-out, walk-pad, walk-end, walk-code, behind-none, behind-short, behind-whole}
 
 module _ (area : List ℕ) (i : ℕ) where
-  pub drop-one : i < length area → drop i area ≡ getD area i 0 ∷ drop (i + 1) area
+  drop-one : i < length area → drop i area ≡ getD area i 0 ∷ drop (i + 1) area
   drop-one h = rw (add-one, drop-cons area i 0)
 
-  pub drop-two : i + 2 ≤ length area → drop i area ≡ getD area i 0 ∷ getD area (i + 1) 0 ∷ drop (i + 2) area
+  drop-two : i + 2 ≤ length area → drop i area ≡ getD area i 0 ∷ getD area (i + 1) 0 ∷ drop (i + 2) area
   drop-two h =
       let a : i < length area = omega arith in
       let b : suc i < length area = omega arith in

@@ -38,7 +38,7 @@ multiple-of-some mode kind h e = go (decLe 15 kind)
     go (no p) = ltb-true 0 (sizeOf kind) (each (ltb 0) sizeOf 15 kind refl (omega arith))
 
 -- a length that strict reading accepts, plain reading accepts
-pub strict-length : (kind : ℕ) (v : List ℕ) → wrongLength strict kind v ≡ false → wrongLength plain kind v ≡ false
+strict-length : (kind : ℕ) (v : List ℕ) → wrongLength strict kind v ≡ false → wrongLength plain kind v ≡ false
 unfolding wrongLength ruleFor rules lookup
 strict-length kind v e = go (within 1 1 kind) (within 4 6 kind) (within 8 9 kind) (within 12 15 kind) e
   where

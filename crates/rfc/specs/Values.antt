@@ -77,6 +77,7 @@ unfoldable pub rules : Mode → List (Row Rule)
 rules plain = row 1 1 exactly ∷ row 4 6 atLeast ∷ row 8 9 atLeast ∷ row 12 15 atLeast ∷ []
 rules strict = row 1 1 exactly ∷ row 4 6 exactly ∷ row 8 9 exactly ∷ row 12 15 exactly ∷ []
 
+-- the rule for a kind
 unfoldable pub ruleFor : Mode → ℕ → Rule
 ruleFor mode kind = lookup multiple (rules mode) kind
 

@@ -17,6 +17,7 @@ use Rattle.values.specs.declared.answer.Reading.the-variants.{Is, Refuse
 use Rattle.values.specs.declared.answer.Element.{Element}
 use Rattle.values.specs.declared.answer.Element.the-variants as element
 
+-- the mode that the code's `strict` asks for
 abbrev pub modeOf : Bool → Mode
 modeOf false = plain
 modeOf true = strict
@@ -42,7 +43,7 @@ nodeSays M = rfc.mNode
 nodeSays H = rfc.hNode
 nodeSays (Unknown byte) = rfc.unknown byte
 
--- what each case says, with the value's bytes: the document's kind, and what the value holds
+-- what each case says, with the value's bytes: the document's kind, and what the value holds. (A list's count is in `countOf`)
 abbrev pub says : Value → List ℕ → rfc.Value
 says value.Raw v = record { kind = 0; content = raw v }
 says (value.Address n) v = record { kind = 1; content = natural n }
