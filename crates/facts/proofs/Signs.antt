@@ -31,7 +31,8 @@ signed-back (pos n) f = let h : n < 2 ^ 31 = f .sfits in not-negative n h
 signed-back (negsuc n) f =
     let h : n < 2 ^ 31 = f .sfits in
     let e : 2 ^ 32 - suc (2 ^ 32 - suc n) ≡ n = omega arith in
-    ap (λ (t : Bool). pickInt t (pos (2 ^ 32 - suc n)) (negsuc (2 ^ 32 - suc (2 ^ 32 - suc n)))) (le-ltb (2 ^ 32 - suc n) (2 ^ 31) (omega arith))
+    ap (λ (t : Bool). pickInt t (pos (2 ^ 32 - suc n)) (negsuc (2 ^ 32 - suc (2 ^ 32 - suc n))))
+    (le-ltb (2 ^ 32 - suc n) (2 ^ 31) (omega arith))
     ∙ ap negsuc e
 
 pub unsigned-back : (x : ℕ) → x < 2 ^ 32 → unsigned (signed x) ≡ x

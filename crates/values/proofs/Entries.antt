@@ -13,16 +13,15 @@ use Rattle.rfc.specs.Numbers.{given, refused}
 use Rattle.rfc.specs.Kinds.{kindOf, sizeOf}
 use Rattle.rfc.specs.Values as rfc
 use Rattle.rfc.specs.Values.{plain, wrongLength, valueOf, read, elements, elementAt, element}
-use Rattle.rfc.proofs.Values.{kind-kept, Listed}
+use Rattle.rfc.proofs.Values.{kind-kept, Listed, addresses, pairs, u16s, codes}
 use Rattle.rfc.proofs.Elements.{listed-count, listed-size, one-entry, pair-entries, element-there, element-none, element-given}
 use Rattle.rfc.proofs.Readings.{read-right}
-use Rattle.rfc.proofs.Values as laws
-use Rattle.values.specs.Reading.{says, countOf, Tells, ListKind, addresses, pairs, u16s, codes, Entry, entryAt}
+use Rattle.values.specs.Reading.{says, countOf, Tells, Entry, entryAt}
 use Rattle.values.specs.declared.answer.Value.{Value}
 use Rattle.values.specs.declared.answer.Value.the-variants as case
 
 -- the last list kind
-pub last-kind : {kind : ℕ} → ListKind kind → (kind ≡ 2 → ⊥) → (kind ≡ 3 → ⊥) → (kind ≡ 7 → ⊥) → kind ≡ 11
+pub last-kind : {kind width n : ℕ} → Listed kind width n → (kind ≡ 2 → ⊥) → (kind ≡ 3 → ⊥) → (kind ≡ 7 → ⊥) → kind ≡ 11
 last-kind addresses n₂ n₃ n₇ = absurd (n₂ refl)
 last-kind pairs n₂ n₃ n₇ = absurd (n₃ refl)
 last-kind u16s n₂ n₃ n₇ = absurd (n₇ refl)
@@ -55,16 +54,10 @@ module _ {kind index : ℕ} {v : List ℕ} (e : Entry kind v index) {k width n :
   entry-is entries f =
       ap (λ (x : List ℕ). given (record { kind = k; entries = x })) (sym f) ∙ ap (λ (j : ℕ). entryAt j v index) (sym is)
 
-within-list : {kind index size : ℕ} {v : List ℕ} → ListKind kind → Entry kind v index → size ≡ sizeOf kind → index * size ≤ length v
-within-list addresses e s = omega (arith, lies e refl laws.addresses s)
-within-list pairs e s = omega (arith, lies e refl laws.pairs s)
-within-list u16s e s = omega (arith, lies e refl laws.u16s s)
-within-list codes e s = omega (arith, lies e refl laws.codes s)
-
 module _ {kind index size : ℕ} {v : List ℕ} (e : Entry kind v index) (s : size ≡ sizeOf kind) where
   -- it begins inside, whatever the list
   pub within : index * size ≤ length v
-  within = within-list (e .is-list) e s
+  within = let h = lies e refl (e .is-list) s in omega arith
 
   -- an element of one number
   pub one : {k width : ℕ} (is : kind ≡ k) → Listed k width 1 → (x : ℕ) → x ≡ number (take width (drop (index * size) v))
@@ -80,7 +73,7 @@ module _ {kind index size : ℕ} {v : List ℕ} (e : Entry kind v index) (s : si
   pub two : kind ≡ 3 → (x y : ℕ) → x ≡ number (take 4 (drop (index * size) v)) → y ≡ number (take 4 (drop (index * size + 4) v))
       → given (record { kind = 3; entries = x ∷ y ∷ [] }) ≡ entryAt kind v index
   two is x y f g =
-      let l : Listed 3 4 2 = laws.pairs in
+      let l : Listed 3 4 2 = pairs in
       let at : index * size ≡ index * 8 = start e is l s in
       entry-is e is l (x ∷ y ∷ [])
       (pair-entries v (right e is l) index (below e is l)
@@ -88,23 +81,28 @@ module _ {kind index size : ℕ} {v : List ℕ} (e : Entry kind v index) (s : si
       ∙ sym (λ i. f i ∷ g i ∷ []))
 
 -- what has elements is a list
-list-kind : (r : Value) (v : List ℕ) (index : ℕ) → index < countOf r → ListKind (says r v .kind)
-list-kind case.Raw v index some = absurd (omega arith)
-list-kind (case.Address n) v index some = absurd (omega arith)
-list-kind (case.Addresses count) v index some = addresses
-list-kind (case.Pairs count) v index some = pairs
-list-kind (case.Byte n) v index some = absurd (omega arith)
-list-kind (case.YesNo t) v index some = absurd (omega arith)
-list-kind (case.U16 n) v index some = absurd (omega arith)
-list-kind (case.U16s count) v index some = u16s
-list-kind (case.U32 n) v index some = absurd (omega arith)
-list-kind (case.I32 z) v index some = absurd (omega arith)
-list-kind case.Text v index some = absurd (omega arith)
-list-kind (case.Codes count) v index some = codes
-list-kind (case.NodeType node) v index some = absurd (omega arith)
-list-kind (case.MessageType n) v index some = absurd (omega arith)
-list-kind (case.ThreeBytes a b c) v index some = absurd (omega arith)
-list-kind case.Flag v index some = absurd (omega arith)
+entry-of : (r : Value) (v : List ℕ) (index : ℕ) → index < countOf r → wrongLength plain (says r v .kind) v ≡ false
+    → index < length (elements (valueOf (says r v .kind) v)) → Entry (says r v .kind) v index
+entry-of case.Raw v index some right below = absurd (omega arith)
+entry-of (case.Address n) v index some right below = absurd (omega arith)
+entry-of (case.Addresses count) v index some right below =
+    record { width = 4; n = 1; is-list = addresses; length-right = right; below = below }
+entry-of (case.Pairs count) v index some right below =
+    record { width = 4; n = 2; is-list = pairs; length-right = right; below = below }
+entry-of (case.Byte n) v index some right below = absurd (omega arith)
+entry-of (case.YesNo t) v index some right below = absurd (omega arith)
+entry-of (case.U16 n) v index some right below = absurd (omega arith)
+entry-of (case.U16s count) v index some right below =
+    record { width = 2; n = 1; is-list = u16s; length-right = right; below = below }
+entry-of (case.U32 n) v index some right below = absurd (omega arith)
+entry-of (case.I32 z) v index some right below = absurd (omega arith)
+entry-of case.Text v index some right below = absurd (omega arith)
+entry-of (case.Codes count) v index some right below =
+    record { width = 1; n = 1; is-list = codes; length-right = right; below = below }
+entry-of (case.NodeType node) v index some right below = absurd (omega arith)
+entry-of (case.MessageType n) v index some right below = absurd (omega arith)
+entry-of (case.ThreeBytes a b c) v index some right below = absurd (omega arith)
+entry-of case.Flag v index some right below = absurd (omega arith)
 
 -- the element of what was read
 module _ (code : ℕ) (v : List ℕ) (index : ℕ) (held : Value) (t : Tells v (read plain code v) held) where
@@ -126,11 +124,10 @@ module _ (code : ℕ) (v : List ℕ) (index : ℕ) (held : Value) (t : Tells v (
 
     pub an-entry : Entry kind v index
     an-entry =
-        record {
-          is-list = subst ListKind kind-is (list-kind held v index there);
-          length-right = ap (λ (j : ℕ). wrongLength plain j v) is ∙ was-right .0;
-          below = omega (arith, t .exact .counted, ap (λ (x : rfc.Value). length (elements x)) value-is);
-        }
+        subst (λ (k : ℕ). Entry k v index) kind-is
+        (entry-of held v index there (ap (λ (k : ℕ). wrongLength plain k v) (kind-is ∙ is) ∙ was-right .0)
+        (subst (λ (x : rfc.Value). index < length (elements x)) (sym (ap (λ (k : ℕ). valueOf k v) kind-is ∙ value-is))
+        (omega (arith, t .exact .counted))))
 
     pub an-element : entryAt kind v index ≡ element index (read plain code v)
     an-element =

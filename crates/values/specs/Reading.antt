@@ -7,6 +7,7 @@ use mathlib.Core.List.{List, [], _∷_}
 use lib.ListN.{length, getD}
 use Rattle.rfc.specs.Numbers.{Answer, given, refused}
 use Rattle.rfc.specs.Values as rfc
+use Rattle.rfc.proofs.Values.{Listed}
 use Rattle.rfc.specs.Values.{raw, natural, integer, truth, numbers, nothing, numbersOf, Rule, exactly, atLeast, multiple, Mode, plain, strict, elements, nodeOf, valueOf, wrongLength}
 use Rattle.values.specs.declared.answer.Node.{Node}
 use Rattle.values.specs.declared.answer.Node.the-variants.{B, P, M, H, Unknown}
@@ -128,16 +129,11 @@ pub record Right (kind : ℕ) (v : List ℕ) : Type 0 where
   pub is-kind : kind < 16
   pub length-right : wrongLength plain kind v ≡ false
 
--- the kinds that are lists
-pub data ListKind : ℕ → Type 0 where
-  addresses : ListKind 2
-  pairs : ListKind 3
-  u16s : ListKind 7
-  codes : ListKind 11
-
--- a list's bytes, and an index below its count
+-- the kind of a list, with the bytes of one number and the numbers of one element, its bytes, and an index below its count
 pub record Entry (kind : ℕ) (v : List ℕ) (index : ℕ) : Type 0 where
-  pub is-list : ListKind kind
+  pub width : ℕ
+  pub n : ℕ
+  pub is-list : Listed kind width n
   pub length-right : wrongLength plain kind v ≡ false
   pub below : index < length (elements (valueOf kind v))
 

@@ -13,16 +13,18 @@ use Rattle.values.proofs.read.Statement.{statement}
 use Rattle.values.proofs.read.Tie as tie
 
 returns : tie.Need-returns
-returns c = let a = c .before .before .args in sym (read-2 (modeOf (a .strict)) (a .code) (now (a .value)) (c .if1 .taken))
+returns c = let a = c .before .before .args in
+    sym (read-2 (modeOf (a .strict)) (a .code) (now (a .value)) (c .if1 .taken))
 
 returns-2 : tie.Need-returns-2
 returns-2 c = let a = c .before .before .before .args in
-    sym (read-6 (modeOf (a .strict)) (a .code) (now (a .value)) (c .before .if1 .left) (pad-code (a .code) (c .if2 .taken)))
+    let pad = pad-code (a .code) (c .if2 .taken) in
+    sym (read-6 (modeOf (a .strict)) (a .code) (now (a .value)) (c .before .if1 .left) pad)
 
 returns-3 : tie.Need-returns-3
 returns-3 c = let a = c .before .before .before .before .args in
-    sym
-    (read-6 (modeOf (a .strict)) (a .code) (now (a .value)) (c .before .before .if1 .left) (end-code (a .code) (c .before .if2 .left) (c .if3 .taken)))
+    let end = end-code (a .code) (c .before .if2 .left) (c .if3 .taken) in
+    sym (read-6 (modeOf (a .strict)) (a .code) (now (a .value)) (c .before .before .if1 .left) end)
 
 kind-of-requires : tie.Need-kind-of-requires
 kind-of-requires c κs = search needs

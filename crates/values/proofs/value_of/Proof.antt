@@ -50,10 +50,12 @@ shared-slice-read-be-i32-2 : tie.Need-shared-slice-read-be-i32-2
 shared-slice-read-be-i32-2 c = let m = c .before .before in omega (arith, fits (m .before .before .pre) (m .match .keys10) i32)
 
 shared-slice-read-be-i32-3 : tie.Need-shared-slice-read-be-i32-3
-shared-slice-read-be-i32-3 c = let m = c .before .before .before in omega (arith, fits (m .before .before .pre) (m .match .keys10) i32)
+shared-slice-read-be-i32-3 c = let m = c .before .before .before in
+    omega (arith, fits (m .before .before .pre) (m .match .keys10) i32)
 
 shared-slice-read-be-i32-4 : tie.Need-shared-slice-read-be-i32-4
-shared-slice-read-be-i32-4 c = let m = c .before .before .before .before in omega (arith, fits (m .before .before .pre) (m .match .keys10) i32)
+shared-slice-read-be-i32-4 c = let m = c .before .before .before .before in
+    omega (arith, fits (m .before .before .pre) (m .match .keys10) i32)
 
 be-i32-requires : tie.Need-be-i32-requires
 be-i32-requires c κs = search needs
@@ -80,7 +82,8 @@ shared-slice-read-t35 : tie.Need-shared-slice-read-t35
 shared-slice-read-t35 c = let m = c .before .before .before in omega (arith, fits (m .before .before .pre) (m .match .keys15) threeBytes)
 
 returns : tie.Need-returns
-returns c = let v = now (c .before .before .args .value) in tells (c .before .before .pre) (c .match .keys1) case.Raw _ refl (raw-value v) (sym (raw-single v 0)) tt
+returns c = let v = now (c .before .before .args .value) in
+    tells (c .before .before .pre) (c .match .keys1) case.Raw _ refl (raw-value v) (sym (raw-single v 0)) tt
 
 returns-2 : tie.Need-returns-2
 returns-2 c = let m = c .before in
@@ -96,11 +99,15 @@ returns-4 c = let m = c .before in
 
 returns-5 : tie.Need-returns-5
 returns-5 c = let m = c .before in
-    scalar (m .before .before .pre) (m .match .keys5) byte _ (ap (λ (n : ℕ). value 4 (natural n)) (first-byte (m .before .before .pre) (m .match .keys5) byte)) refl tt
+    let right = m .before .before .pre in
+    let is = m .match .keys5 in
+    scalar right is byte _ (ap (λ (n : ℕ). value 4 (natural n)) (first-byte right is byte)) refl tt
 
 returns-6 : tie.Need-returns-6
 returns-6 c = let m = c .before in
-    scalar (m .before .before .pre) (m .match .keys6) yesNo _ (ap (λ (n : ℕ). value 5 (truth (eqb n 1))) (first-byte (m .before .before .pre) (m .match .keys6) yesNo)) refl tt
+    let right = m .before .before .pre in
+    let is = m .match .keys6 in
+    scalar right is yesNo _ (ap (λ (n : ℕ). value 5 (truth (eqb n 1))) (first-byte right is yesNo)) refl tt
 
 returns-7 : tie.Need-returns-7
 returns-7 c = let m = c .before in
@@ -116,14 +123,17 @@ returns-9 c = let m = c .before in
 
 returns-10 : tie.Need-returns-10
 returns-10 c = let m = c .before .before .before .before .before in
-    scalar (m .before .before .pre) (m .match .keys10) i32 _
+    let right = m .before .before .pre in
+    let is = m .match .keys10 in
+    scalar right is i32 _
     (ap (λ (z : ℤ). value 9 (integer z))
     (toZ-ofZ {w = w32} (record { sfits = c .be-i32 .ok }) ∙ c .be-i32 .ensures
-    ∙ ap (λ (l : List ℕ). signed (number l)) (sym (cells-are (m .before .before .pre) (m .match .keys10) i32))))
+    ∙ ap (λ (l : List ℕ). signed (number l)) (sym (cells-are right is i32))))
     refl tt
 
 returns-11 : tie.Need-returns-11
-returns-11 c = let v = now (c .before .before .args .value) in tells (c .before .before .pre) (c .match .keys11) case.Text _ refl (text-value v) (sym (raw-single v 10)) tt
+returns-11 c = let v = now (c .before .before .args .value) in
+    tells (c .before .before .pre) (c .match .keys11) case.Text _ refl (text-value v) (sym (raw-single v 10)) tt
 
 returns-12 : tie.Need-returns-12
 returns-12 c = let m = c .before in
@@ -131,17 +141,23 @@ returns-12 c = let m = c .before in
 
 returns-13 : tie.Need-returns-13
 returns-13 c = let m = c .before .before in
+    let right = m .before .before .pre in
+    let is = m .match .keys13 in
     let e = c .node-of .ensures in
-    scalar (m .before .before .pre) (m .match .keys13) nodeType _ (ap (λ (n : ℕ). value 12 (natural n)) (e .1 ∙ first-byte (m .before .before .pre) (m .match .keys13) nodeType))
+    scalar right is nodeType _ (ap (λ (n : ℕ). value 12 (natural n)) (e .1 ∙ first-byte right is nodeType))
     refl (e .0 ∙ ap nodeOf (sym (e .1)))
 
 returns-14 : tie.Need-returns-14
 returns-14 c = let m = c .before in
-    scalar (m .before .before .pre) (m .match .keys14) messageType _ (ap (λ (n : ℕ). value 13 (natural n)) (first-byte (m .before .before .pre) (m .match .keys14) messageType)) refl tt
+    let right = m .before .before .pre in
+    let is = m .match .keys14 in
+    scalar right is messageType _ (ap (λ (n : ℕ). value 13 (natural n)) (first-byte right is messageType)) refl tt
 
 returns-15 : tie.Need-returns-15
 returns-15 c = let m = c .before .before .before in
-    scalar (m .before .before .pre) (m .match .keys15) threeBytes _ (ap (λ (l : List ℕ). value 14 (raw l)) (sym (cells-are (m .before .before .pre) (m .match .keys15) threeBytes))) refl tt
+    let right = m .before .before .pre in
+    let is = m .match .keys15 in
+    scalar right is threeBytes _ (ap (λ (l : List ℕ). value 14 (raw l)) (sym (cells-are right is threeBytes))) refl tt
 
 returns-16 : tie.Need-returns-16
 returns-16 c = let s = c .before .before in
