@@ -21,7 +21,8 @@ use Rattle.rfc.specs.Values.{Content, raw, natural, integer, truth, numbers, no
 use Rattle.rfc.specs.Lists.{Bytes}
 use Rattle.rfc.proofs.Values.{i32, scalar-value}
 use Rattle.rfc.proofs.Readings.{strict-plain, read-right}
-use Rattle.promises.specs.Reading.{StrictReadsAlike, Seconds, SecondsReadBack, SecondsWriteBack}
+use Rattle.rfc.specs.Typed.{Seconds}
+use Rattle.promises.specs.Reading.{StrictReadsAlike, SecondsReadBack, SecondsWriteBack}
 
 pub strict-reads-alike : StrictReadsAlike
 strict-reads-alike code v value e = strict-plain code v value e
