@@ -18,6 +18,11 @@ pub some : (w : ℕ) → 0 < 256 ^ w
 some zero = lit< tt
 some (suc w) = omega (arith, pow-succ' 256 w, some w)
 
+-- a number written in so many bytes has so many
+pub length-digits : (w n : ℕ) → length (digits w n) ≡ w
+length-digits zero n = refl
+length-digits (suc w) n = ap suc (length-digits w n)
+
 -- what stands before goes up by the width
 number-from : (h : ℕ) (xs : List ℕ) → numberFrom h xs ≡ h * 256 ^ length xs + number xs
 number-from h [] = omega arith

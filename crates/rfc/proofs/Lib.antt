@@ -8,6 +8,8 @@ pub mod Values
 pub mod Elements
 pub mod Readings
 pub mod Writing
+pub mod Sofar
+pub mod Typed
 pub mod Parts
 pub mod Lists
 pub mod Fewest

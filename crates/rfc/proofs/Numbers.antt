@@ -86,6 +86,10 @@ pub not-long : (bytes : List ℕ) → length bytes ≤ mostBytes → tooLong byt
 unfolding tooLong
 not-long bytes h = le-ltb mostBytes (length bytes) h
 
+pub not-too-long : (bytes : List ℕ) → tooLong bytes ≡ false → length bytes ≤ mostBytes
+unfolding tooLong
+not-too-long bytes e = ltb-false mostBytes (length bytes) e
+
 -- 1
 pub short : (message : List ℕ) → length message < leastMessage → tooShort message ≡ true
 unfolding tooShort

@@ -36,11 +36,11 @@ module _ (size : ℕ) (some : 0 < size) (code : ℕ) where
 
 -- any write: what the checks decide, and what is left
 module _ (w : Write) (room : List ℕ) (place : ℕ) where
-  write-refused : {k : ℕ} → Refuses (writeChecks w room place) k → answerTo w room place ≡ refused k
+  pub write-refused : {k : ℕ} → Refuses (writeChecks w room place) k → answerTo w room place ≡ refused k
   unfolding answerTo
   write-refused r = refuses _ r
 
-  write-given : Clear (writeChecks w room place) → answerTo w room place ≡ given (place + length (w .bytes))
+  pub write-given : Clear (writeChecks w room place) → answerTo w room place ≡ given (place + length (w .bytes))
   unfolding answerTo
   write-given c = clears _ c
 

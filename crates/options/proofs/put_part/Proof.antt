@@ -8,7 +8,7 @@ use lib.ListN.{length, take, drop, set, length-set, length-drop}
 use lib.Seq.{length-take-le}
 use Rattle.facts.specs.Over.{over}
 use Rattle.encoder.proofs.Answers.{put-over}
-use Rattle.options.proofs.Parts.{part-over}
+use Rattle.rfc.proofs.Sofar.{part-over}
 use borrow.Author.Needs.{needs}
 use Rattle.options.proofs.put_part.Statement.{statement}
 use Rattle.options.proofs.put_part.Tie as tie
@@ -57,7 +57,7 @@ returns c =
     let s : length stored ≡ length (a .room .now) = simp length-set in
     put-over (take (a .from + a .n - a .from) rest) stored _ (a .at + 2) _ (rw n (omega arith)) (c .before .before .write-slice .ensures)
     ∙ ap (λ (k : ℕ). over stored (a .at + 2) (take k rest)) n
-    ∙ part-over (a .room .now) v (a .at) (a .code) (a .from) (a .n) (omega arith)
+    ∙ part-over (a .room .now) (take (a .n) rest) (a .at) (a .code) (a .n) (omega arith)
 
 pub put-part-spec : {M : Type 1} → statement M
 put-part-spec =

@@ -3,15 +3,16 @@
 use Prim.Native.Nat.{_+_, _-_, _≤_}
 use native.Mathlib.Omega.{arith}
 use borrow.Author.Needs.{needs}
+use lib.Dec.{lit<}
 use lib.ListN.{length}
 use Rattle.rfc.specs.Numbers.{mostPart}
 use Rattle.rfc.specs.Writing.{encode}
-use Rattle.options.proofs.Parts.{Sofar, sofar-none, part-fits, sofar-more, sofar-all}
+use Rattle.rfc.proofs.Sofar.{Sofar, sofar-none, part-fits, sofar-more, sofar-all}
 use Rattle.options.proofs.put_parts.Statement.{statement}
 use Rattle.options.proofs.put_parts.Tie as tie
 
 abbrev Inv-loop : tie.InvT-loop
-Inv-loop room₀ place code value done₀ from₀ room done from = Sofar room₀ room value place code done from
+Inv-loop room₀ place code value done₀ from₀ room done from = Sofar mostPart room₀ room value place code done from
 
 abbrev μ-loop : tie.MeasureT-loop
 μ-loop room₀ place code value done₀ from₀ room done from = length value - from
@@ -25,14 +26,10 @@ fits : (c : tie.After-next-piece Inv-loop μ-loop)
     → c .before .before .loop .done + (2 + c .next-piece .result)
     ≤ length (encode mostPart (begun c .args .code) (begun c .args .value .now))
 fits c =
-    let a = begun c .args in
-    let l = c .before .before .loop in
-    let n = c .next-piece in
-    part-fits (a .room .now) (l .room) (a .value .now) (a .place) (a .code) (l .done) (l .from) (n .result) (l .inv)
-    (c .before .loop-test .taken) (n .ensures)
+    part-fits mostPart (lit< tt) (c .before .before .loop .inv) (c .before .loop-test .taken) (c .next-piece .ensures)
 
 loop-holds : tie.Need-loop-holds Inv-loop μ-loop
-loop-holds c = sofar-none _ _ _ _
+loop-holds c = sofar-none mostPart (lit< tt)
 
 sub-next-piece : tie.Need-sub-next-piece Inv-loop μ-loop
 sub-next-piece c = omega arith
@@ -61,18 +58,15 @@ loop-less c = omega (arith, fits (c .before .before .before .before))
 loop-again : tie.Need-loop-again Inv-loop μ-loop
 loop-again c =
     let turn = c .before .before .before .before in
-    let a = begun turn .args in
-    let l = turn .before .before .loop in
-    let n = turn .next-piece in
     let wrote = c .before .before .put-part in
-    sofar-more (a .room .now) (l .room) (a .value .now) (a .place) (a .code) (l .done) (l .from) (n .result) (l .inv)
-    (turn .before .loop-test .taken) (n .ensures) (wrote .last .0) (omega arith) (wrote .kept .0) (wrote .ensures)
+    sofar-more mostPart (lit< tt) (turn .before .before .loop .inv) (turn .before .loop-test .taken) (turn .next-piece .ensures)
+    (wrote .last .0) (omega arith) (wrote .kept .0) (wrote .ensures)
 
 same-length : tie.Need-same-length Inv-loop μ-loop
 same-length c = c .before .loop .inv .keeps
 
 returns : tie.Need-returns Inv-loop μ-loop
-returns c = sofar-all _ _ _ _ _ _ _ (c .before .loop .inv) (c .loop-test .left)
+returns c = sofar-all mostPart (lit< tt) (c .before .loop .inv) (c .loop-test .left)
 
 pub put-parts-spec : {M : Type 1} → statement M
 put-parts-spec =

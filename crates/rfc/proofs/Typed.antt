@@ -1,0 +1,230 @@
+-- The laws of `specs/Typed.antt`: the bytes of numbers, the parts of each kind, and a typed write by its checks.
+-- Assumes nothing.
+use mathlib.Core.Path.{_≡_, refl, sym, ap, _∙_}
+use Prim.Native.Nat.{ℕ, zero, suc, _+_, _*_, _%_, _≤_, _<_}
+use mathlib.Core.Bool.{true, false, not}
+use native.Mathlib.Omega.{arith}
+use native.Mathlib.Nat.{mul-suc}
+use mathlib.Core.List.{List, [], _∷_, _++_, map, flatten, append-nil}
+use borrow.Author.Tests.{eq-eqb, ne-eqb}
+use lib.Dec.{lit<, eqb}
+use lib.ListN.{length, take, drop, length-append, drop-of-length-le}
+use lib.Seq.{take-nil, drop-nil, take-all, take-append-add, drop-append-add}
+use Rattle.facts.specs.BigEndian.{digits}
+use Rattle.facts.proofs.BigEndian.{length-digits}
+use Rattle.facts.specs.Over.{over}
+use Rattle.rfc.specs.Numbers.{refused, given, mostBytes, mostValue, mostPart, padCode, endCode, checked}
+use Rattle.rfc.specs.Kinds.{kindOf, sizes, sizeOf}
+use Rattle.rfc.specs.Values.{notText}
+use Rattle.rfc.specs.Writing.{encode, Write, writeChecks, answerTo, roomLeft, roomAfter, writeBytes}
+use Rattle.rfc.specs.Typed.{digitsOf, partSize, encodeKind, otherKind, oddPairs, codeChecks, valueChecks, writeKind}
+use Rattle.rfc.proofs.Numbers.{Refuses, here, later, refuses-front, refuses-behind, Clear, done, next, clear-both, long, not-long, not-too-long, past, not-past, place-within, pad-code, end-code, a-code, much, not-much, full, not-full}
+use Rattle.rfc.proofs.Values.{Scalar, address, byte, yesNo, u16, u32, i32, nodeType, messageType, threeBytes}
+use Rattle.rfc.proofs.Writing.{encode-none, encode-more, write-refused, write-given, given-left}
+
+-- the bytes of numbers, each of so many
+module _ (width : ℕ) where
+  more : (n : ℕ) → width * suc n ≡ width + width * n
+  more n = omega (arith, mul-suc width n)
+
+  first : (x n : ℕ) → width * suc n ≡ length (digits width x) + width * n
+  first x n = omega (arith, more n, length-digits width x)
+
+  pub length-digits-of : (l : List ℕ) → length (digitsOf width l) ≡ width * length l
+  unfolding digitsOf flatten
+  length-digits-of [] = omega arith
+  length-digits-of (x ∷ l) =
+      omega (arith, length-append (digits width x) (digitsOf width l), length-digits-of l, first x (length l))
+
+  -- those of the first n numbers, and those behind them
+  take-digits : (n : ℕ) (l : List ℕ) → take (width * n) (digitsOf width l) ≡ digitsOf width (take n l)
+  unfolding digitsOf flatten
+  take-digits zero l = ap (λ (k : ℕ). take k (digitsOf width l)) (let z : width * 0 ≡ 0 = omega arith in z)
+  take-digits (suc n) [] = take-nil (width * suc n)
+  take-digits (suc n) (x ∷ l) =
+      ap (λ (k : ℕ). take k (digits width x ++ digitsOf width l)) (first x n)
+      ∙ take-append-add (digits width x) (digitsOf width l) (width * n)
+      ∙ ap (λ (r : List ℕ). digits width x ++ r) (take-digits n l)
+
+  drop-digits : (n : ℕ) (l : List ℕ) → drop (width * n) (digitsOf width l) ≡ digitsOf width (drop n l)
+  unfolding digitsOf flatten
+  drop-digits zero l = ap (λ (k : ℕ). drop k (digitsOf width l)) (let z : width * 0 ≡ 0 = omega arith in z)
+  drop-digits (suc n) [] = drop-nil (width * suc n)
+  drop-digits (suc n) (x ∷ l) =
+      ap (λ (k : ℕ). drop k (digits width x ++ digitsOf width l)) (first x n)
+      ∙ drop-append-add (digits width x) (digitsOf width l) (width * n)
+      ∙ drop-digits n l
+
+  -- the bytes of n numbers from one on
+  pub digits-part : (from n : ℕ) (l : List ℕ)
+      → take (width * n) (drop (width * from) (digitsOf width l)) ≡ digitsOf width (take n (drop from l))
+  digits-part from n l = ap (take (width * n)) (drop-digits from l) ∙ take-digits n (drop from l)
+
+  -- one number
+  pub digits-one : (n : ℕ) → digitsOf width (n ∷ []) ≡ digits width n
+  unfolding digitsOf flatten
+  digits-one n = append-nil (digits width n)
+
+-- the most bytes of a part: 63 addresses, 31 pairs, 127 u16s
+pub parts-listed : (partSize 2 ≡ 4 * 63) × (partSize 3 ≡ 4 * (2 * 31)) × (partSize 7 ≡ 2 * 127)
+unfolding partSize sizeOf sizes
+parts-listed = (refl, refl, refl)
+
+-- text and codes are cut as byte values are
+pub parts-bytes : (partSize 10 ≡ mostPart) × (partSize 11 ≡ mostPart)
+unfolding partSize sizeOf sizes
+parts-bytes = (refl, refl)
+
+-- one element by its kind: it has a byte and fits in a part, and it is no pairs, no text and no flag
+pub record Single (kind size : ℕ) : Type 0 where
+  pub size-is : sizeOf kind ≡ size
+  pub some : 0 < size
+  pub in-part : (size ≤ partSize kind) × (size ≤ mostPart)
+  pub other : (kind ≡ 3 → ⊥) × (kind ≡ 10 → ⊥) × (kind ≡ 15 → ⊥)
+
+pub single : {kind size : ℕ} → Scalar kind size → Single kind size
+unfolding partSize sizeOf sizes
+single address = record { size-is = refl; some = lit< tt; in-part = (omega arith, omega arith); other = (λ e. omega arith, λ e. omega arith, λ e. omega arith) }
+single byte = record { size-is = refl; some = lit< tt; in-part = (omega arith, omega arith); other = (λ e. omega arith, λ e. omega arith, λ e. omega arith) }
+single yesNo = record { size-is = refl; some = lit< tt; in-part = (omega arith, omega arith); other = (λ e. omega arith, λ e. omega arith, λ e. omega arith) }
+single u16 = record { size-is = refl; some = lit< tt; in-part = (omega arith, omega arith); other = (λ e. omega arith, λ e. omega arith, λ e. omega arith) }
+single u32 = record { size-is = refl; some = lit< tt; in-part = (omega arith, omega arith); other = (λ e. omega arith, λ e. omega arith, λ e. omega arith) }
+single i32 = record { size-is = refl; some = lit< tt; in-part = (omega arith, omega arith); other = (λ e. omega arith, λ e. omega arith, λ e. omega arith) }
+single nodeType = record { size-is = refl; some = lit< tt; in-part = (omega arith, omega arith); other = (λ e. omega arith, λ e. omega arith, λ e. omega arith) }
+single messageType = record { size-is = refl; some = lit< tt; in-part = (omega arith, omega arith); other = (λ e. omega arith, λ e. omega arith, λ e. omega arith) }
+single threeBytes = record { size-is = refl; some = lit< tt; in-part = (omega arith, omega arith); other = (λ e. omega arith, λ e. omega arith, λ e. omega arith) }
+
+-- a value that fits in one part is one, whatever the most bytes of a part are
+encode-once : (size code : ℕ) (v : List ℕ) → 0 < length v → length v ≤ size → encode size code v ≡ code ∷ length v ∷ v
+encode-once size code v h g =
+    let some : 0 < size = omega arith in
+    let t : take size v ≡ v = take-all size v g in
+    encode-more size some code v h
+    ∙ (λ i. code ∷ length (t i) ∷ (t i ++ encode size code (drop-of-length-le v g i)))
+    ∙ ap (λ (r : List ℕ). code ∷ length v ∷ (v ++ r)) (encode-none size some code)
+    ∙ ap (λ (r : List ℕ). code ∷ length v ∷ r) (append-nil v)
+
+-- the parts of bytes of a kind
+module _ (kind code : ℕ) (v : List ℕ) where
+  pub encode-kind : (kind ≡ 15 → ⊥) → encodeKind kind code v ≡ encode (partSize kind) code v
+  unfolding encodeKind
+  encode-kind n = rw (ne-eqb kind 15 n)
+
+  pub encode-scalar : {size : ℕ} → Single kind size → length v ≡ size → encodeKind kind code v ≡ encode mostPart code v
+  encode-scalar s e =
+      encode-kind (s .other .2)
+      ∙ encode-once (partSize kind) code v (omega (arith, s .some)) (omega (arith, s .in-part .0))
+      ∙ sym (encode-once mostPart code v (omega (arith, s .some)) (omega (arith, s .in-part .1)))
+
+pub encode-flag : (code : ℕ) (v : List ℕ) → encodeKind 15 code v ≡ code ∷ 0 ∷ []
+unfolding encodeKind
+encode-flag code v = refl
+
+-- 13
+pub no-pairs : (kind : ℕ) (v : List ℕ) → (kind ≡ 3 → ⊥) → oddPairs kind v ≡ false
+unfolding oddPairs
+no-pairs kind v n = rw (ne-eqb kind 3 n)
+
+pub pairs-odd : (v : List ℕ) → oddPairs 3 v ≡ not (eqb (length v % 8) 0)
+unfolding oddPairs sizeOf sizes
+pairs-odd v = refl
+
+-- the checks of the room, the place and the code
+module _ (kind code : ℕ) (room : List ℕ) (place : ℕ) where
+  pub code-2 : mostBytes < length room → Refuses (codeChecks kind code room place) 2
+  unfolding codeChecks
+  code-2 a = here (long room a)
+
+  module _ (a : length room ≤ mostBytes) where
+    pub code-4 : length room < place → Refuses (codeChecks kind code room place) 4
+    unfolding codeChecks
+    code-4 b = later (not-long room a) (here (past place room b))
+
+    module _ (b : place ≤ length room) where
+      pub code-pad : code ≡ padCode → Refuses (codeChecks kind code room place) 6
+      unfolding codeChecks
+      code-pad c = later (not-long room a) (later (not-past place room b) (here (pad-code code c)))
+
+      module _ (c : code ≡ padCode → ⊥) where
+        pub code-end : code ≡ endCode → Refuses (codeChecks kind code room place) 6
+        unfolding codeChecks
+        code-end d = later (not-long room a) (later (not-past place room b) (here (end-code code c d)))
+
+        module _ (d : code ≡ endCode → ⊥) where
+          pub code-9 : (kindOf code ≡ kind → ⊥) → Refuses (codeChecks kind code room place) 9
+          unfolding codeChecks otherKind
+          code-9 e =
+              later (not-long room a)
+              (later (not-past place room b) (later (a-code code c d) (here (ap not (ne-eqb (kindOf code) kind e)))))
+
+          pub code-clear : kindOf code ≡ kind → Clear (codeChecks kind code room place)
+          unfolding codeChecks otherKind
+          code-clear e =
+              next (not-long room a)
+              (next (not-past place room b) (next (a-code code c d) (next (ap not (eq-eqb (kindOf code) kind e)) done)))
+
+-- where they are clear, the room is no longer than the most, and the place is in it
+pub code-within : (kind code : ℕ) (room : List ℕ) (place : ℕ) → Clear (codeChecks kind code room place)
+    → (length room ≤ mostBytes) × (place ≤ length room)
+unfolding codeChecks
+code-within kind code room place (next a (next b (next c (next d done)))) = (not-too-long room a, place-within place room b)
+
+-- a typed write
+module _ (kind code : ℕ) (v room : List ℕ) (place : ℕ) where
+  abbrev write : Write
+  write = writeKind kind code v room place
+
+  pub kind-code : {k : ℕ} → Refuses (codeChecks kind code room place) k → answerTo write room place ≡ refused k
+  unfolding writeKind writeChecks
+  kind-code r = write-refused write room place (refuses-front _ (refuses-front (valueChecks kind v) r))
+
+  module _ (a : Clear (codeChecks kind code room place)) where
+    -- a check of the value's bytes, behind those
+    behind : {k : ℕ} → Refuses (valueChecks kind v) k → answerTo write room place ≡ refused k
+    unfolding writeKind writeChecks
+    behind r = write-refused write room place (refuses-front _ (refuses-behind a r))
+
+    pub kind-13 : oddPairs kind v ≡ true → answerTo write room place ≡ refused 13
+    unfolding valueChecks
+    kind-13 b = behind (here b)
+
+    module _ (b : oddPairs kind v ≡ false) where
+      pub kind-11 : notText kind v ≡ true → answerTo write room place ≡ refused 11
+      unfolding valueChecks
+      kind-11 c = behind (later b (here c))
+
+      module _ (c : notText kind v ≡ false) where
+        pub kind-7 : mostValue < length v → answerTo write room place ≡ refused 7
+        unfolding valueChecks
+        kind-7 d = behind (later b (later c (here (much v d))))
+
+        module _ (d : length v ≤ mostValue) where
+          clear : Clear (write .checks)
+          unfolding writeKind valueChecks
+          clear = clear-both a (next b (next c (next (not-much v d) done)))
+
+          pub kind-8 : length room < place + length (encodeKind kind code v) → answerTo write room place ≡ refused 8
+          unfolding writeKind writeChecks
+          kind-8 e = write-refused write room place (refuses-behind clear (here (full room place (encodeKind kind code v) e)))
+
+          module _ (e : place + length (encodeKind kind code v) ≤ length room) where
+            pub kind-given : answerTo write room place ≡ given (place + length (encodeKind kind code v))
+            unfolding writeKind writeChecks
+            kind-given =
+                write-given write room place (clear-both clear (next (not-full room place (encodeKind kind code v) e) done))
+
+            pub kind-left : roomAfter write room place ≡ over room place (encodeKind kind code v)
+            unfolding writeKind
+            kind-left = given-left write room place _ kind-given
+
+        -- where its parts are those of a byte value, it is the write of one
+        pub kind-alike : encodeKind kind code v ≡ encode mostPart code v
+            → (answerTo (writeBytes code v room place) room place ≡ answerTo write room place)
+            × (roomAfter (writeBytes code v room place) room place ≡ roomAfter write room place)
+        unfolding answerTo roomAfter writeChecks writeKind writeBytes codeChecks valueChecks checked
+        kind-alike e = go a
+          where
+            go : Clear (codeChecks kind code room place)
+                → (answerTo (writeBytes code v room place) room place ≡ answerTo write room place)
+                × (roomAfter (writeBytes code v room place) room place ≡ roomAfter write room place)
+            go (next w (next x (next y (next z done)))) = (rw (w, x, y, z, b, c, e), rw (w, x, y, z, b, c, e))
