@@ -8,7 +8,8 @@ use mathlib.Core.List.{List, [], _∷_, _++_}
 use lib.ListN.{length, take, drop, set, length-drop, length-take, length-append, drop-of-length-le}
 use lib.Seq.{length-take-le, drop-drop, take-at, drop-at, take-all, take-length}
 use Rattle.facts.specs.Over.{over}
-use Rattle.facts.proofs.Over.{over-over, over-next, set-over, length-over, over-nil}
+use Rattle.facts.proofs.Over.{over-over, over-next, over-nil}
+use Rattle.facts.proofs.Cells.{stores-over}
 use Rattle.rfc.specs.Writing.{encode}
 use Rattle.rfc.proofs.Writing.{encode-more, encode-none}
 
@@ -16,11 +17,8 @@ use Rattle.rfc.proofs.Writing.{encode-more, encode-none}
 pub part-over : (room bytes : List ℕ) (at code n : ℕ) → at + (2 + length bytes) ≤ length room
     → over (set (set room at code) (at + 1) n) (at + 2) bytes ≡ over room at (code ∷ n ∷ bytes)
 part-over room bytes at code n h =
-    let a : set (set room at code) (at + 1) n ≡ over room at (code ∷ n ∷ []) =
-    ap (λ (x : List ℕ). set x (at + 1) n) (set-over room at code (omega arith))
-    ∙ set-over (over room at (code ∷ [])) (at + 1) n (omega (arith, length-over room at (code ∷ []) (omega arith)))
-    ∙ over-over room at (code ∷ []) (n ∷ []) (omega arith) in
-    ap (λ (x : List ℕ). over x (at + 2) bytes) a ∙ over-over room at (code ∷ n ∷ []) bytes (omega arith)
+    ap (λ (x : List ℕ). over x (at + 2) bytes) (stores-over room at (code ∷ n ∷ []) (omega arith))
+    ∙ over-over room at (code ∷ n ∷ []) bytes (omega arith)
 
 -- the part of a value with its n bytes from one on
 abbrev pub part : ℕ → List ℕ → ℕ → ℕ → List ℕ

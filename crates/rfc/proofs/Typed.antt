@@ -8,8 +8,8 @@ use native.Mathlib.Nat.{mul-suc}
 use mathlib.Core.List.{List, [], _∷_, _++_, map, flatten, append-nil}
 use borrow.Author.Tests.{eq-eqb, ne-eqb}
 use lib.Dec.{lit<, eqb}
-use lib.ListN.{length, take, drop, length-append, drop-of-length-le}
-use lib.Seq.{take-nil, drop-nil, take-all, take-append-add, drop-append-add}
+use lib.ListN.{length, take, drop, getD, length-append, drop-of-length-le}
+use lib.Seq.{drop-cons, take-nil, drop-nil, take-all, take-append-add, drop-append-add}
 use Rattle.facts.specs.BigEndian.{digits}
 use Rattle.facts.proofs.BigEndian.{length-digits}
 use Rattle.facts.specs.Over.{over}
@@ -60,10 +60,15 @@ module _ (width : ℕ) where
       → take (width * n) (drop (width * from) (digitsOf width l)) ≡ digitsOf width (take n (drop from l))
   digits-part from n l = ap (take (width * n)) (drop-digits from l) ∙ take-digits n (drop from l)
 
-  -- one number
-  pub digits-one : (n : ℕ) → digitsOf width (n ∷ []) ≡ digits width n
+  -- those of one number
+  pub digits-at : (i : ℕ) (l : List ℕ) → i < length l → take width (drop (width * i) (digitsOf width l)) ≡ digits width (getD l i 0)
   unfolding digitsOf flatten
-  digits-one n = append-nil (digits width n)
+  digits-at i l h =
+      let w : width ≡ width * 1 = omega arith in
+      ap (λ (k : ℕ). take k (drop (width * i) (digitsOf width l))) w
+      ∙ digits-part i 1 l
+      ∙ ap (λ (r : List ℕ). digitsOf width (take 1 r)) (drop-cons l i 0 h)
+      ∙ append-nil (digits width (getD l i 0))
 
 -- the most bytes of a part: 63 addresses, 31 pairs, 127 u16s
 pub parts-listed : (partSize 2 ≡ 4 * 63) × (partSize 3 ≡ 4 * (2 * 31)) × (partSize 7 ≡ 2 * 127)

@@ -1,13 +1,14 @@
 -- What the contracts of the typed writers say, over the definitions of `Rattle.rfc.specs.Typed`.
 -- Assumes nothing.
-use Prim.Native.Nat.{ℕ, _<_}
+use Prim.Native.Nat.{ℕ, _+_, _*_, _≤_, _<_}
 use mathlib.Core.Path.{_≡_}
 use mathlib.Core.Bool.{false}
 use mathlib.Core.List.{List}
+use lib.ListN.{length}
 use Rattle.rfc.specs.Numbers.{Check, mostPart}
 use Rattle.rfc.specs.Values.{Content, notText}
 use Rattle.rfc.specs.Writing.{encode}
-use Rattle.rfc.specs.Typed.{encodeKind, oddPairs, writeValue}
+use Rattle.rfc.specs.Typed.{digitsOf, partSize, encodeKind, oddPairs, writeValue}
 use Rattle.rfc.proofs.Numbers.{Refuses, Clear}
 use Rattle.encoder.specs.Written.{Wrote}
 use Rattle.encoder.specs.declared.Written.{Written}
@@ -27,3 +28,16 @@ pub record AsBytes (kind code : ℕ) (v : List ℕ) : Type 0 where
   pub paired : oddPairs kind v ≡ false
   pub text : notText kind v ≡ false
   pub alike : encodeKind kind code v ≡ encode mostPart code v
+
+-- a list kind that is cut at so many numbers, each of so many bytes
+pub record CutAt (kind width most : ℕ) : Type 0 where
+  pub part-is : partSize kind ≡ width * most
+  pub some : 0 < most
+  pub least : width * most ≤ mostPart
+  pub listed : (kind ≡ 10 → ⊥) × (kind ≡ 15 → ⊥)
+
+-- numbers of so many bytes whose parts, so many numbers each, fit in a room at a place
+pub record Ready (most width code place : ℕ) (l room : List ℕ) : Type 0 where
+  pub some : 0 < most
+  pub least : width * most ≤ mostPart
+  pub fits : place + length (encode (width * most) code (digitsOf width l)) ≤ length room

@@ -88,10 +88,23 @@ pub fn write_message_type(room: &mut [u8], place: usize, code: u8, message_type:
 }
 
 // Writes three bytes.
-pub fn write_three_bytes(room: &mut [u8], place: usize, code: u8, first: u8, second: u8, third: u8) -> Written
+pub fn write_three_bytes(
+    room: &mut [u8],
+    place: usize,
+    code: u8,
+    first: u8,
+    second: u8,
+    third: u8,
+) -> Written
     ensures { λ r. ⌜ Writes 14 (raw (first ∷ second ∷ third ∷ [])) code (now (room .entry)) (now (room .exit)) place r ⌝ }
 {
-    checks::write_as(room, place, code, kinds::THREE_BYTES, &[first, second, third])
+    checks::write_as(
+        room,
+        place,
+        code,
+        kinds::THREE_BYTES,
+        &[first, second, third],
+    )
 }
 
 // Writes a flag, which has no value: the code and a length of 0.

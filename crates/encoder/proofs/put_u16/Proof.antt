@@ -1,41 +1,42 @@
+-- `put_u16` meets its contract: stores one behind the other are one write.
+-- Assumes nothing.
+use mathlib.Core.Path.{ap, _∙_}
+use Prim.Native.Nat.{ℕ, _+_}
+use mathlib.Core.List.{List}
+use native.Mathlib.Omega.{arith}
+use lib.ListN.{set, getD, length-set}
+use Rattle.facts.specs.BigEndian.{digits}
+use Rattle.facts.proofs.Cells.{stores-over}
 use borrow.Author.Needs.{needs}
 use Rattle.encoder.proofs.put_u16.Statement.{statement}
 use Rattle.encoder.proofs.put_u16.Tie as tie
-use Rattle.encoder.proofs.put_u16.Reads as reads
-use Rattle.encoder.proofs.put_u16.Lts as lts
-use Rattle.encoder.proofs.u16_bytes.Reads as u16-bytes-reads
 
--- src/lib.rt:142:17
 u16-bytes-requires : tie.Need-u16-bytes-requires
 u16-bytes-requires c κs = search needs
 
--- src/lib.rt:143:16
 array-read-room : tie.Need-array-read-room
 array-read-room c = search needs
 
--- src/lib.rt:143:5
 slice-write-room : tie.Need-slice-write-room
 slice-write-room c = search needs
 
--- src/lib.rt:144:20
 array-read-room-2 : tie.Need-array-read-room-2
 array-read-room-2 c = search needs
 
--- src/lib.rt:144:10
 add-room : tie.Need-add-room
 add-room c = search needs
 
--- src/lib.rt:144:5
 slice-write-room-2 : tie.Need-slice-write-room-2
-slice-write-room-2 c = ?
+slice-write-room-2 c = simp length-set (omega arith)
 
--- src/lib.rt:138:1
 same-length : tie.Need-same-length
 same-length c = search needs
 
--- src/lib.rt:138:1
 returns : tie.Need-returns
-returns c = ?
+returns c =
+    let a = c .before .before .args in
+    ap (λ (bytes : List ℕ). set (set (a .room .now) (a .at) (getD bytes 0 0)) (a .at + 1) (getD bytes 1 0)) (c .u16-bytes .ensures)
+    ∙ stores-over (a .room .now) (a .at) (digits 2 (a .number)) (omega arith)
 
 pub put-u16-spec : {M : Type 1} → statement M
 put-u16-spec =

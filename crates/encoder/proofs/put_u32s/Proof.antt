@@ -1,58 +1,57 @@
+-- `put_u32s` meets its contract: after i turns the first i numbers are put (`Put`).
+-- Assumes nothing.
+use Prim.Native.Nat.{_+_, _-_, _*_, _≤_}
+use native.Mathlib.Omega.{arith}
+use lib.ListN.{length}
+use Rattle.encoder.proofs.Turns.{Put, put-none, put-fits, put-more, put-all}
 use Rattle.encoder.proofs.put_u32s.Statement.{statement}
 use Rattle.encoder.proofs.put_u32s.Tie as tie
-use Rattle.encoder.proofs.put_u32s.Reads as reads
-use Rattle.encoder.proofs.put_u32s.Lts as lts
-use Rattle.encoder.proofs.put_u32.Reads as put-u32-reads
 
 abbrev Inv-loop : tie.InvT-loop
-Inv-loop room₀ place numbers i₀ room i = ?
+Inv-loop room₀ place numbers i₀ room i = Put 4 room₀ room numbers place i
 
 abbrev μ-loop : tie.MeasureT-loop
-μ-loop room₀ place numbers i₀ room i = ?
+μ-loop room₀ place numbers i₀ room i = length numbers - i
 
--- src/lib.rt:131:5
+-- the next number is among those that are to be put
+fits : (c : tie.In-loop Inv-loop μ-loop) → 4 * c .before .loop .i + 4 ≤ 4 * length (c .before .before .before .before .args .numbers .now)
+fits c = put-fits 4 (c .before .loop .inv) (c .loop-test .taken)
+
 loop-holds : tie.Need-loop-holds Inv-loop μ-loop
-loop-holds c = ?
+loop-holds c = put-none 4
 
--- src/lib.rt:132:31
 mul-put-u32 : tie.Need-mul-put-u32 Inv-loop μ-loop
-mul-put-u32 c = ?
+mul-put-u32 c = omega (arith, fits (c .before))
 
--- src/lib.rt:132:23
 add-put-u32 : tie.Need-add-put-u32 Inv-loop μ-loop
-add-put-u32 c = ?
+add-put-u32 c = omega (arith, fits (c .before))
 
--- src/lib.rt:132:38
 mul-put-u32-2 : tie.Need-mul-put-u32-2 Inv-loop μ-loop
-mul-put-u32-2 c = ?
+mul-put-u32-2 c = omega (arith, fits (c .before))
 
--- src/lib.rt:132:38
 shared-slice-read-put-u32 : tie.Need-shared-slice-read-put-u32 Inv-loop μ-loop
-shared-slice-read-put-u32 c = ?
+shared-slice-read-put-u32 c = omega arith
 
--- src/lib.rt:132:9
 put-u32-requires : tie.Need-put-u32-requires Inv-loop μ-loop
-put-u32-requires c κs = ?
+put-u32-requires c κs = omega (arith, fits (c .before .before))
 
--- src/lib.rt:133:9
 add-i : tie.Need-add-i Inv-loop μ-loop
-add-i c = ?
+add-i c = omega arith
 
--- src/lib.rt:131:5
 loop-less : tie.Need-loop-less Inv-loop μ-loop
-loop-less c = ?
+loop-less c = omega arith
 
--- src/lib.rt:131:5
 loop-again : tie.Need-loop-again Inv-loop μ-loop
-loop-again c = ?
+loop-again c =
+    let turn = c .before .before .before .before .before in
+    let wrote = c .before .before .put-u32 in
+    put-more 4 (turn .before .loop .inv) (turn .loop-test .taken) (wrote .last .0) (omega arith) (wrote .kept .0) (wrote .ensures)
 
--- src/lib.rt:126:1
 same-length : tie.Need-same-length Inv-loop μ-loop
-same-length c = ?
+same-length c = c .before .loop .inv .keeps
 
--- src/lib.rt:126:1
 returns : tie.Need-returns Inv-loop μ-loop
-returns c = ?
+returns c = put-all 4 (c .before .loop .inv) (c .loop-test .left)
 
 pub put-u32s-spec : {M : Type 1} → statement M
 put-u32s-spec =

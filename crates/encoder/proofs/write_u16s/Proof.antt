@@ -1,0 +1,55 @@
+-- `write_u16s` meets its contract: a law of `writeSlice` for each return.
+-- Assumes nothing.
+use mathlib.Core.Path.{sym, ap, _∙_}
+use Prim.Native.Nat.{ℕ, _+_}
+use native.Mathlib.Omega.{arith}
+use Rattle.rfc.specs.Numbers.{given}
+use Rattle.rfc.specs.Typed.{digitsOf}
+use Rattle.rfc.proofs.Writing.{slice-4, slice-8, slice-given, slice-left}
+use Rattle.rfc.proofs.Typed.{length-digits-of}
+use Rattle.encoder.proofs.Answers.{refuses, writes}
+use borrow.Author.Needs.{needs}
+use Rattle.encoder.proofs.write_u16s.Statement.{statement}
+use Rattle.encoder.proofs.write_u16s.Tie as tie
+
+returns : tie.Need-returns
+returns c =
+    let a = c .before .before .before .args in
+    refuses _ (a .room .now) (a .place) 4 (slice-4 (digitsOf 2 (a .numbers .now)) (a .room .now) (a .place) (c .if1 .taken))
+
+sub-if2 : tie.Need-sub-if2
+sub-if2 c = search needs
+
+returns-2 : tie.Need-returns-2
+returns-2 c =
+    let a = c .before .before .before .before .args in
+    let bytes = digitsOf 2 (a .numbers .now) in
+    refuses _ (a .room .now) (a .place) 8
+    (slice-8 bytes (a .room .now) (a .place) (c .before .if1 .left) (omega (arith, length-digits-of 2 (a .numbers .now))))
+
+mul-to : tie.Need-mul-to
+mul-to c = search needs
+
+add-to : tie.Need-add-to
+add-to c = search needs
+
+put-u16s-requires : tie.Need-put-u16s-requires
+put-u16s-requires c κs = search needs
+
+same-length : tie.Need-same-length
+same-length c = search needs
+
+returns-3 : tie.Need-returns-3
+returns-3 c =
+    let a = c .before .before .before .before .before .before .before .before .args in
+    let bytes = digitsOf 2 (a .numbers .now) in
+    let size = length-digits-of 2 (a .numbers .now) in
+    let within = c .before .before .before .before .before .if1 .left in
+    writes _ (a .room .now) (a .place) _ _
+    (slice-given bytes (a .room .now) (a .place) within (omega arith) ∙ ap (λ (k : ℕ). given (a .place + k)) size)
+    (slice-left bytes (a .room .now) (a .place) within (omega arith) ∙ sym (c .before .before .put-u16s .ensures))
+
+pub write-u16s-spec : {M : Type 1} → statement M
+write-u16s-spec =
+    tie.close
+    (tie.spec returns sub-if2 returns-2 mul-to add-to put-u16s-requires same-length returns-3)
