@@ -45,22 +45,22 @@ pub fn write_pairs(room: &mut [u8], place: usize, code: u8, addresses: &[u32]) -
 }
 
 // Writes numbers of two bytes.
-pub fn write_u16s(room: &mut [u8], place: usize, code: u8, numbers: &[u16]) -> Written
-    ensures { λ r. ⌜ Writes 7 (numbers (now (numbers .entry))) code (now (room .entry)) (now (room .exit)) place r ⌝ }
+pub fn write_u16s(room: &mut [u8], place: usize, code: u8, u16s: &[u16]) -> Written
+    ensures { λ r. ⌜ Writes 7 (numbers (now (u16s .entry))) code (now (room .entry)) (now (room .exit)) place r ⌝ }
 {
     let number = checks::refusal(room, place, code, kinds::U16S);
     if number > 0 {
         return Written::Refused(number);
     }
-    if numbers.len() > MOST_VALUE / 2 {
+    if u16s.len() > MOST_VALUE / 2 {
         return Written::Refused(7);
     }
-    let size = size_in_parts(2 * numbers.len(), 2 * U16S_A_PART);
+    let size = size_in_parts(2 * u16s.len(), 2 * U16S_A_PART);
     if size > room.len() - place {
         return Written::Refused(8);
     }
     let to = place + size;
-    put_u16_parts(room, place, code, numbers, U16S_A_PART);
+    put_u16_parts(room, place, code, u16s, U16S_A_PART);
     Written::To(to)
 }
 
