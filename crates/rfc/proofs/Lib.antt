@@ -9,6 +9,7 @@ pub mod Elements
 pub mod Readings
 pub mod Writing
 pub mod Parts
+pub mod Readback
 pub mod Lists
 pub mod Fewest
 pub mod Endings
