@@ -6,22 +6,30 @@ use mathlib.Core.Bool.{Bool, true, false, not}
 use mathlib.Core.List.{List, [], _∷_, _++_, map, flatten}
 use native.Mathlib.Omega.{arith}
 use native.Mathlib.Nat.{suc-mul, mul-mod-left, mod-one}
-use borrow.Author.Tests.{ltb-false, eqb-true, eqb-false, eq-eqb, ne-eqb, not-false}
-use lib.Dec.{eqb}
+use native.Mathlib.Decide.{decLe}
+use borrow.Author.Tests.{ltb-true, ltb-false, eqb-true, eq-eqb, ne-eqb, not-false}
+use lib.Dec.{eqb, ltb}
 use lib.IntN.{ℤ, pos, negsuc}
 use lib.ListN.{length, take, drop, length-append}
 use lib.Seq.{take-all}
 use mir.Syntax.{w32}
 use mir.Val.{SFits}
 use Rattle.facts.specs.BigEndian.{number, digits, signed, unsigned}
+use Rattle.facts.specs.Pieces.{pieces}
 use Rattle.facts.specs.Ranges.{lookup, within}
 use Rattle.facts.proofs.BigEndian.{length-digits, number-digits}
 use Rattle.facts.proofs.Pieces.{pieces-none, pieces-front}
 use Rattle.facts.proofs.Signs.{signed-back}
-use Rattle.rfc.specs.Numbers.{given, mostBytes, noCode}
+use Rattle.facts.proofs.Table.{each}
+use Rattle.rfc.specs.Numbers.{given, mostBytes, mostValue, padCode, endCode, tooLong, tooMuch, noCode}
 use Rattle.rfc.specs.Kinds.{kindOf, sizeOf, sizes}
 use Rattle.rfc.specs.Values.{Content, raw, natural, integer, truth, numbers, nothing, Value, numbersOf, widthOf, valueOf, exactly, multiple, Mode, plain, strict, rules, ruleFor, wrongLength, notText, unclear, read}
-use Rattle.rfc.specs.Typed.{digitsOf, bytesIn, bytesOf, oddPairs, Below, Seconds, Proper, bytes, address, addresses, pairs, byte, yesNo, u16, u16s, u32, i32, text, codes, nodeType, messageType, threeBytes, flag}
+use Rattle.rfc.specs.Walk.{run, further, walk, option}
+use Rattle.rfc.specs.Writing.{partsOf, encode, Write, writeChecks, answerTo, roomAfter, close}
+use Rattle.rfc.specs.Typed.{digitsOf, bytesIn, bytesOf, partSize, encodeKind, otherKind, oddPairs, codeChecks, valueChecks, writeKind, Below, Seconds, Proper, bytes, address, addresses, pairs, byte, yesNo, u16, u16s, u32, i32, text, codes, nodeType, messageType, threeBytes, flag}
+use Rattle.rfc.proofs.Numbers.{Clear, done, next, passes, given-no, pad-code, end-code}
+use Rattle.rfc.proofs.Writing.{encode-none, encode-more, given-left, given-to, given-fits}
+use Rattle.rfc.proofs.Parts.{walk-parts, walk-value}
 use Rattle.rfc.proofs.Values as of
 use Rattle.rfc.proofs.Elements.{listed-size}
 use Rattle.rfc.proofs.Readings.{length-by, read-given, strict-plain}
@@ -131,3 +139,118 @@ reads kind content (threeBytes a b c) even =
     let v : List ℕ = a ∷ b ∷ c ∷ [] in
     exact 14 v (raw v) refl refl refl (of.scalar-value v of.threeBytes)
 reads kind content flag even = exact 15 [] nothing refl refl refl (of.flag-value [])
+
+-- so they are read, to a code of the kind: what strict reading accepts, plain reading reads alike
+pub value-back : (mode : Mode) (code : ℕ) (x : Value) → Proper (x .kind) (x .content) → noCode code ≡ false → kindOf code ≡ x .kind
+    → length (bytesOf x) ≤ mostBytes → oddPairs (x .kind) (bytesOf x) ≡ false → notText (x .kind) (bytesOf x) ≡ false
+    → read mode code (bytesOf x) ≡ given x
+value-back mode code x p some is short even utf = go mode
+  where
+    strictly : read strict code (bytesOf x) ≡ given x
+    strictly =
+        let r : Reads (x .kind) (bytesOf x) (x .content) = reads (x .kind) (x .content) p even in
+        read-given strict code (bytesOf x) short some (sym is) (r .right) utf (r .clear) ∙ ap given (r .same)
+
+    go : (m : Mode) → read m code (bytesOf x) ≡ given x
+    go plain = strict-plain code (bytesOf x) x strictly
+    go strict = strictly
+
+-- what a write that is given has passed
+record Passed (kind code : ℕ) (v room : List ℕ) : Type 0 where
+  short : length room ≤ mostBytes
+  some : noCode code ≡ false
+  is : kindOf code ≡ kind
+  even : oddPairs kind v ≡ false
+  utf : notText kind v ≡ false
+  most : length v ≤ mostValue
+
+not-too-long : (l : List ℕ) → tooLong l ≡ false → length l ≤ mostBytes
+unfolding tooLong
+not-too-long l e = ltb-false mostBytes (length l) e
+
+not-too-much : (v : List ℕ) → tooMuch v ≡ false → length v ≤ mostValue
+unfolding tooMuch
+not-too-much v e = ltb-false mostValue (length v) e
+
+same-kind : (kind code : ℕ) → otherKind kind code ≡ false → kindOf code ≡ kind
+unfolding otherKind
+same-kind kind code e = eqb-true (kindOf code) kind (not-false _ e)
+
+passed : (kind code : ℕ) (v room : List ℕ) (place to : ℕ) → answerTo (writeKind kind code v room place) room place ≡ given to
+    → Passed kind code v room
+unfolding answerTo writeChecks writeKind codeChecks valueChecks
+passed kind code v room place to e = go (passes _ _ (given to) (given-no to) e .0)
+  where
+    go : Clear (writeChecks (writeKind kind code v room place) room place) → Passed kind code v room
+    go (next long (next past (next none (next other (next odd (next no-text (next much last))))))) =
+        record {
+          short = not-too-long room long;
+          some = none;
+          is = same-kind kind code other;
+          even = odd;
+          utf = no-text;
+          most = not-too-much v much;
+        }
+
+-- a code that may be written is neither Pad nor End
+no-pad : (code : ℕ) → noCode code ≡ false → code ≡ padCode → ⊥
+no-pad code e z = let f : true ≡ false = sym (pad-code code z) ∙ e in let n : _≡_ {A = ℕ} 0 1 = cc in omega arith
+
+no-end : (code : ℕ) → noCode code ≡ false → code ≡ endCode → ⊥
+no-end code e z =
+    let f : true ≡ false = sym (end-code code (no-pad code e) z) ∙ e in let n : _≡_ {A = ℕ} 0 1 = cc in omega arith
+
+-- a flag is one part with no value; any other kind is written in parts of some bytes
+flag-part : (kind code : ℕ) (v : List ℕ) → kind ≡ 15 → encodeKind kind code v ≡ partsOf code ([] ∷ [])
+unfolding encodeKind partsOf
+flag-part kind code v e = rw (eq-eqb kind 15 e)
+
+kind-parts : (kind code : ℕ) (v : List ℕ) → (kind ≡ 15 → ⊥) → encodeKind kind code v ≡ encode (partSize kind) code v
+unfolding encodeKind
+kind-parts kind code v n = rw (ne-eqb kind 15 n)
+
+some-part : (kind : ℕ) → kind < 15 → 0 < partSize kind
+unfolding partSize sizeOf sizes
+some-part kind h = ltb-true 0 (partSize kind) (each (ltb 0) partSize 15 kind refl h)
+
+flag-empty : (v : List ℕ) → wrongLength strict 15 v ≡ false → v ≡ []
+unfolding wrongLength ruleFor rules lookup within sizeOf sizes
+flag-empty [] e = refl
+flag-empty (b ∷ v) e = let z : suc (length v) ≡ 0 = eqb-true (suc (length v)) 0 (not-false _ e) in absurd (omega arith)
+
+-- where something is written, there is a value
+some-value : (size : ℕ) → 0 < size → (code : ℕ) (v : List ℕ) → 0 < length (encode size code v) → 0 < length v
+some-value size some code [] h = absurd (let f : ⊥ = omega (arith, ap length (encode-none size some code)) in f)
+some-value size some code (b ∷ v) h = omega arith
+
+-- what is written of a kind is walked as one option
+module _ (kind code : ℕ) (v tail : List ℕ) (below-16 : kind < 16) (right : wrongLength strict kind v ≡ false)
+    (some : noCode code ≡ false) (other : further code tail ≡ run 0 []) where
+  walk-kind : (at : ℕ) → 0 < length (encodeKind kind code v)
+      → (n : ℕ) × (walk at (encodeKind kind code v ++ tail) ≡ option code v n (at + length (encodeKind kind code v)))
+  unfolding flatten
+  walk-kind at h = go (decLe 15 kind)
+    where
+      go : Dec (15 ≤ kind)
+          → (n : ℕ) × (walk at (encodeKind kind code v ++ tail) ≡ option code v n (at + length (encodeKind kind code v)))
+      go (yes p) =
+          let is : kind ≡ 15 = omega arith in
+          let e : encodeKind kind code v ≡ partsOf code ([] ∷ []) = flag-part kind code v is in
+          let none : v ≡ [] = flag-empty v (subst (λ (k : ℕ). wrongLength strict k v ≡ false) is right) in
+          (
+            1,
+            ap (λ (l : List ℕ). walk at (l ++ tail)) e
+            ∙ walk-parts code tail other (no-pad code some) (no-end code some) at [] []
+            ∙ (λ i. option code (sym none i) 1 (at + length (sym e i))),
+          )
+      go (no p) =
+          let e : encodeKind kind code v ≡ encode (partSize kind) code v = kind-parts kind code v (λ z. omega arith) in
+          let size : 0 < partSize kind = some-part kind (omega arith) in
+          let value : 0 < length v = some-value (partSize kind) size code v (omega (arith, ap length e)) in
+          let n : ℕ = length (pieces (partSize kind) (drop (partSize kind) v)) + 1 in
+          (
+            n,
+            ap (λ (l : List ℕ). walk at (l ++ tail)) e
+            ∙ walk-value code tail other (no-pad code some) (no-end code some) (partSize kind) size at v value
+            ∙ ap (λ (l : List ℕ). option code v n (at + length l)) (sym e),
+          )
