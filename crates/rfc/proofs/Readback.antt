@@ -11,28 +11,32 @@ use borrow.Author.Tests.{ltb-true, ltb-false, eqb-true, eq-eqb, ne-eqb, not-fals
 use lib.Dec.{eqb, ltb}
 use lib.IntN.{ℤ, pos, negsuc}
 use lib.ListN.{length, take, drop, length-append}
-use lib.Seq.{take-all}
+use lib.Seq.{take-all, append-snoc}
 use mir.Syntax.{w32}
 use mir.Val.{SFits}
 use Rattle.facts.specs.BigEndian.{number, digits, signed, unsigned}
+use Rattle.facts.specs.Over.{over}
 use Rattle.facts.specs.Pieces.{pieces}
 use Rattle.facts.specs.Ranges.{lookup, within}
 use Rattle.facts.proofs.BigEndian.{length-digits, number-digits}
+use Rattle.facts.proofs.Over.{length-over, from-over, over-over}
 use Rattle.facts.proofs.Pieces.{pieces-none, pieces-front}
 use Rattle.facts.proofs.Signs.{signed-back}
 use Rattle.facts.proofs.Table.{each}
 use Rattle.rfc.specs.Numbers.{given, mostBytes, mostValue, padCode, endCode, tooLong, tooMuch, noCode}
 use Rattle.rfc.specs.Kinds.{kindOf, sizeOf, sizes}
-use Rattle.rfc.specs.Values.{Content, raw, natural, integer, truth, numbers, nothing, Value, numbersOf, widthOf, valueOf, exactly, multiple, Mode, plain, strict, rules, ruleFor, wrongLength, notText, unclear, read}
-use Rattle.rfc.specs.Walk.{run, further, walk, option}
+use Rattle.rfc.specs.Values.{Content, raw, natural, integer, truth, numbers, nothing, Value, numbersOf, widthOf, valueOf, exactly, multiple, Mode, plain, strict, rules, ruleFor, wrongLength, notText, unclear, read, valued, readOption}
+use Rattle.rfc.specs.Walk.{run, further, walk, option, roomFor, step}
 use Rattle.rfc.specs.Writing.{partsOf, encode, Write, writeChecks, answerTo, roomAfter, close}
-use Rattle.rfc.specs.Typed.{digitsOf, bytesIn, bytesOf, partSize, encodeKind, otherKind, oddPairs, codeChecks, valueChecks, writeKind, Below, Seconds, Proper, bytes, address, addresses, pairs, byte, yesNo, u16, u16s, u32, i32, text, codes, nodeType, messageType, threeBytes, flag}
+use Rattle.rfc.specs.Typed.{digitsOf, bytesIn, bytesOf, partSize, encodeKind, otherKind, oddPairs, codeChecks, valueChecks, writeKind, writeValue, Apart, Below, Seconds, Proper, bytes, address, addresses, pairs, byte, yesNo, u16, u16s, u32, i32, text, codes, nodeType, messageType, threeBytes, flag}
 use Rattle.rfc.proofs.Numbers.{Clear, done, next, passes, given-no, pad-code, end-code}
 use Rattle.rfc.proofs.Writing.{encode-none, encode-more, given-left, given-to, given-fits}
 use Rattle.rfc.proofs.Parts.{walk-parts, walk-value}
 use Rattle.rfc.proofs.Values as of
 use Rattle.rfc.proofs.Elements.{listed-size}
-use Rattle.rfc.proofs.Readings.{length-by, read-given, strict-plain}
+use Rattle.rfc.proofs.Readings.{length-by, read-given, strict-plain, value-given}
+use Rattle.rfc.proofs.Codes.{kind-below}
+use Rattle.rfc.proofs.Walk.{further-none, further-other, answered, step-walks}
 
 -- numbers one behind the other
 length-numbers : (width : ℕ) (l : List ℕ) → length (digitsOf width l) ≡ length l * width
@@ -254,3 +258,85 @@ module _ (kind code : ℕ) (v tail : List ℕ) (below-16 : kind < 16) (right : w
             ∙ walk-value code tail other (no-pad code some) (no-end code some) (partSize kind) size at v value
             ∙ ap (λ (l : List ℕ). option code v n (at + length l)) (sym e),
           )
+
+apart-none : (code : ℕ) (tail : List ℕ) → Apart code tail → further code tail ≡ run 0 []
+apart-none code [] u = further-none code
+apart-none code (b ∷ rest) n = further-other code b rest n
+
+-- only a flag holds nothing, and a flag holds nothing
+only-flag : (kind : ℕ) → Proper kind nothing → kind ≡ 15
+only-flag kind flag = refl
+
+flag-only : (content : Content) → Proper 15 content → content ≡ nothing
+flag-only content flag = refl
+
+-- a typed write that is given
+module _ (code : ℕ) (x : Value) (room : List ℕ) (place to : ℕ) (proper : Proper (x .kind) (x .content))
+    (written : answerTo (writeValue code x room place) room place ≡ given to) where
+  abbrev put : List ℕ
+  put = encodeKind (x .kind) code (bytesOf x)
+
+  abbrev after : List ℕ
+  after = roomAfter (writeValue code x room place) room place
+
+  checks : Passed (x .kind) code (bytesOf x) room
+  unfolding writeValue
+  checks = passed (x .kind) code (bytesOf x) room place to written
+
+  left : after ≡ over room place put
+  unfolding writeValue writeKind
+  left = given-left (writeValue code x room place) room place to written
+
+  ends : to ≡ place + length put
+  unfolding writeValue writeKind
+  ends = given-to (writeValue code x room place) room place to written
+
+  inside : place + length put ≤ length room
+  unfolding writeValue writeKind
+  inside = given-fits (writeValue code x room place) room place to written
+
+  -- an area that has these bytes at the place, and behind them no further part of the code
+  reads-in : (mode : Mode) (area tail : List ℕ) (join : ℕ) → length area ≡ length room → drop place area ≡ put ++ tail
+      → further code tail ≡ run 0 [] → place < to → mostValue ≤ join → readOption mode (step area place join) ≡ given (valued code x to)
+  reads-in mode area tail join long from other some joins =
+      let c : Passed (x .kind) code (bytesOf x) room = checks in
+      let v : List ℕ = bytesOf x in
+      let right = reads (x .kind) (x .content) proper (c .even) .right in
+      let kind : x .kind < 16 = subst (λ (k : ℕ). k < 16) (c .is) (kind-below code) in
+      let w = walk-kind (x .kind) code v tail kind right (c .some) other place (omega (arith, ends)) in
+      ap (readOption mode)
+      (step-walks area place join (omega (arith, c .short)) (omega (arith, inside))
+      ∙ ap (λ (l : List ℕ). roomFor join (walk place l)) from
+      ∙ ap (roomFor join) (w .1)
+      ∙ answered join code v (w .0) (place + length put) (omega (arith, c .most)))
+      ∙ value-given mode code v (w .0) (place + length put) x
+      (value-back mode code x proper (c .some) (c .is) (omega (arith, c .most)) (c .even) (c .utf))
+      ∙ ap (λ (k : ℕ). given (valued code x k)) (sym ends)
+
+  -- the room that it leaves, with no further part of the code behind
+  pub reads-back : (mode : Mode) (join : ℕ) → place < to → Apart code (drop to room) → mostValue ≤ join
+      → readOption mode (step after place join) ≡ given (valued code x to)
+  reads-back mode join some apart joins =
+      let tail : List ℕ = drop (place + length put) room in
+      ap (λ (area : List ℕ). readOption mode (step area place join)) left
+      ∙ reads-in mode (over room place put) tail join (length-over room place put inside) (from-over room place put inside)
+      (apart-none code tail (subst (λ (k : ℕ). Apart code (drop k room)) ends apart)) some joins
+
+  -- and that room, closed
+  pub closed-back : (mode : Mode) (join closed : ℕ) → place < to → answerTo (close after to) after to ≡ given closed → mostValue ≤ join
+      → readOption mode (step (roomAfter (close after to) after to) place join) ≡ given (valued code x to)
+  unfolding close
+  closed-back mode join closed some e joins =
+      let more : List ℕ = put ++ endCode ∷ [] in
+      let tail : List ℕ = drop (place + length more) room in
+      let l : length more ≡ length put + 1 = length-append put (endCode ∷ []) in
+      let len : length after ≡ length room = ap length left ∙ length-over room place put inside in
+      let fit : place + length more ≤ length room = omega (arith, given-fits (close after to) after to closed e, ends) in
+      let same : roomAfter (close after to) after to ≡ over room place more =
+      given-left (close after to) after to closed e
+      ∙ (λ i. over (left i) (ends i) (endCode ∷ []))
+      ∙ over-over room place put (endCode ∷ []) inside in
+      ap (λ (area : List ℕ). readOption mode (step area place join)) same
+      ∙ reads-in mode (over room place more) (endCode ∷ tail) join (length-over room place more fit)
+      (from-over room place more fit ∙ append-snoc put endCode tail)
+      (further-other code endCode tail (λ z. no-end code (checks .some) (sym z))) some joins
