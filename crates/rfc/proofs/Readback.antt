@@ -2,6 +2,7 @@
 -- Assumes nothing.
 use mathlib.Core.Path.{_≡_, refl, sym, ap, _∙_, subst}
 use Prim.Native.Nat.{ℕ, suc, zero, _+_, _*_, _%_, _^_, _≤_, _<_}
+use mathlib.Core.Logic.{_⊎_, inl, inr}
 use mathlib.Core.Bool.{Bool, true, false, not}
 use mathlib.Core.List.{List, [], _∷_, _++_, map, flatten}
 use native.Mathlib.Omega.{arith}
@@ -24,7 +25,7 @@ use Rattle.facts.proofs.Pieces.{pieces-none, pieces-front}
 use Rattle.facts.proofs.Signs.{signed-back}
 use Rattle.facts.proofs.Table.{each}
 use Rattle.rfc.specs.Numbers.{given, mostBytes, mostValue, padCode, endCode, tooLong, tooMuch, noCode}
-use Rattle.rfc.specs.Kinds.{kindOf, sizeOf, sizes}
+use Rattle.rfc.specs.Kinds.{kinds, kindOf, sizeOf, sizes}
 use Rattle.rfc.specs.Values.{Content, raw, natural, integer, truth, numbers, nothing, Value, numbersOf, widthOf, valueOf, exactly, multiple, Mode, plain, strict, rules, ruleFor, wrongLength, notText, unclear, read, valued, readOption}
 use Rattle.rfc.specs.Walk.{run, further, walk, option, roomFor, step}
 use Rattle.rfc.specs.Writing.{partsOf, encode, Write, writeChecks, answerTo, roomAfter, close}
@@ -159,6 +160,11 @@ value-back mode code x p some is short even utf = go mode
     go plain = strict-plain code (bytesOf x) x strictly
     go strict = strictly
 
+-- the four bytes of a number of seconds, to code 2
+pub seconds-back : (mode : Mode) (z : ℤ) → Seconds z → read mode 2 (digits 4 (unsigned z)) ≡ given (of.value 9 (integer z))
+unfolding noCode kindOf kinds lookup within sizeOf sizes oddPairs notText
+seconds-back mode z h = value-back mode 2 (of.value 9 (integer z)) (i32 z h) refl refl (omega arith) refl refl
+
 -- what a write that is given has passed
 record Passed (kind code : ℕ) (v room : List ℕ) : Type 0 where
   short : length room ≤ mostBytes
@@ -240,23 +246,21 @@ module _ (kind code : ℕ) (v tail : List ℕ) (below-16 : kind < 16) (right : w
       go (yes p) =
           let is : kind ≡ 15 = omega arith in
           let e : encodeKind kind code v ≡ partsOf code ([] ∷ []) = flag-part kind code v is in
-          let none : v ≡ [] = flag-empty v (subst (λ (k : ℕ). wrongLength strict k v ≡ false) is right) in
-          (
+          let none : v ≡ [] = flag-empty v (subst (λ (k : ℕ). wrongLength strict k v ≡ false) is right) in (
             1,
             ap (λ (l : List ℕ). walk at (l ++ tail)) e
-            ∙ walk-parts code tail other (no-pad code some) (no-end code some) at [] []
-            ∙ (λ i. option code (sym none i) 1 (at + length (sym e i))),
+                ∙ walk-parts code tail other (no-pad code some) (no-end code some) at [] []
+                ∙ (λ i. option code (sym none i) 1 (at + length (sym e i))),
           )
       go (no p) =
           let e : encodeKind kind code v ≡ encode (partSize kind) code v = kind-parts kind code v (λ z. omega arith) in
           let size : 0 < partSize kind = some-part kind (omega arith) in
           let value : 0 < length v = some-value (partSize kind) size code v (omega (arith, ap length e)) in
-          let n : ℕ = length (pieces (partSize kind) (drop (partSize kind) v)) + 1 in
-          (
+          let n : ℕ = length (pieces (partSize kind) (drop (partSize kind) v)) + 1 in (
             n,
             ap (λ (l : List ℕ). walk at (l ++ tail)) e
-            ∙ walk-value code tail other (no-pad code some) (no-end code some) (partSize kind) size at v value
-            ∙ ap (λ (l : List ℕ). option code v n (at + length l)) (sym e),
+                ∙ walk-value code tail other (no-pad code some) (no-end code some) (partSize kind) size at v value
+                ∙ ap (λ (l : List ℕ). option code v n (at + length l)) (sym e),
           )
 
 apart-none : (code : ℕ) (tail : List ℕ) → Apart code tail → further code tail ≡ run 0 []
@@ -270,6 +274,39 @@ only-flag kind flag = refl
 flag-only : (content : Content) → Proper 15 content → content ≡ nothing
 flag-only content flag = refl
 
+-- an empty value is no part, and only it
+no-value : (size : ℕ) → 0 < size → (code : ℕ) (v : List ℕ) → length (encode size code v) ≡ 0 → v ≡ []
+no-value size some code [] e = refl
+no-value size some code (b ∷ v) e = absurd (let f : ⊥ = omega (arith, ap length (encode-more size some code (b ∷ v) (omega arith))) in f)
+
+-- a kind whose elements have bytes has none only where it holds no bytes, or no numbers
+some-bytes : (kind : ℕ) → kind < 15 → (0 < sizeOf kind) × (0 < widthOf kind)
+unfolding sizeOf sizes widthOf lookup within
+some-bytes kind h = (
+  ltb-true 0 (sizeOf kind) (each (ltb 0) sizeOf 15 kind refl h),
+  ltb-true 0 (widthOf kind) (each (ltb 0) widthOf 15 kind refl h),
+)
+
+no-content : (kind : ℕ) (content : Content) → Proper kind content → kind < 15 → bytesIn kind content ≡ []
+    → (content ≡ raw []) ⊎ (content ≡ numbers [])
+no-content kind (raw v) p h e = inl (ap raw e)
+no-content kind (natural n) p h e =
+    absurd (let f : ⊥ = omega (arith, ap length e, length-digits (sizeOf kind) n, some-bytes kind h .0) in f)
+no-content kind (integer z) p h e =
+    absurd (let f : ⊥ = omega (arith, ap length e, length-digits (sizeOf kind) (unsigned z), some-bytes kind h .0) in f)
+no-content kind (truth b) p h e = absurd (let f : ⊥ = omega (arith, ap length e) in f)
+no-content kind (numbers []) p h e = inr refl
+no-content kind (numbers (n ∷ l)) p h e =
+    let w : ℕ = widthOf kind in
+    absurd (let f : ⊥ = omega (arith, ap length e, length-numbers w (n ∷ l), suc-mul (length l) w, some-bytes kind h .1) in f)
+no-content kind nothing p h e = absurd (let f : ⊥ = omega (arith, only-flag kind p) in f)
+
+no-bytes : (kind : ℕ) (content : Content) → (content ≡ raw []) ⊎ (content ≡ numbers [])
+    → (bytesIn kind content ≡ []) × (content ≡ nothing → ⊥)
+unfolding digitsOf flatten
+no-bytes kind content (inl e) = (ap (bytesIn kind) e, λ n. let z : _≡_ {A = ℕ} 0 1 = cc in omega arith)
+no-bytes kind content (inr e) = (ap (bytesIn kind) e, λ n. let z : _≡_ {A = ℕ} 0 1 = cc in omega arith)
+
 -- a typed write that is given
 module _ (code : ℕ) (x : Value) (room : List ℕ) (place to : ℕ) (proper : Proper (x .kind) (x .content))
     (written : answerTo (writeValue code x room place) room place ≡ given to) where
@@ -282,6 +319,9 @@ module _ (code : ℕ) (x : Value) (room : List ℕ) (place to : ℕ) (proper : P
   checks : Passed (x .kind) code (bytesOf x) room
   unfolding writeValue
   checks = passed (x .kind) code (bytesOf x) room place to written
+
+  is-kind : x .kind < 16
+  is-kind = subst (λ (k : ℕ). k < 16) (checks .is) (kind-below code)
 
   left : after ≡ over room place put
   unfolding writeValue writeKind
@@ -302,8 +342,7 @@ module _ (code : ℕ) (x : Value) (room : List ℕ) (place to : ℕ) (proper : P
       let c : Passed (x .kind) code (bytesOf x) room = checks in
       let v : List ℕ = bytesOf x in
       let right = reads (x .kind) (x .content) proper (c .even) .right in
-      let kind : x .kind < 16 = subst (λ (k : ℕ). k < 16) (c .is) (kind-below code) in
-      let w = walk-kind (x .kind) code v tail kind right (c .some) other place (omega (arith, ends)) in
+      let w = walk-kind (x .kind) code v tail is-kind right (c .some) other place (omega (arith, ends)) in
       ap (readOption mode)
       (step-walks area place join (omega (arith, c .short)) (omega (arith, inside))
       ∙ ap (λ (l : List ℕ). roomFor join (walk place l)) from
@@ -340,3 +379,26 @@ module _ (code : ℕ) (x : Value) (room : List ℕ) (place to : ℕ) (proper : P
       ∙ reads-in mode (over room place more) (endCode ∷ tail) join (length-over room place more fit)
       (from-over room place more fit ∙ append-snoc put endCode tail)
       (further-other code endCode tail (λ z. no-end code (checks .some) (sym z))) some joins
+
+  -- nothing is written exactly where the value holds no bytes, or no numbers
+  pub nothing-put : to ≡ place → (x .content ≡ raw []) ⊎ (x .content ≡ numbers [])
+  unfolding partsOf
+  nothing-put e = go (decLe 15 (x .kind))
+    where
+      go : Dec (15 ≤ x .kind) → (x .content ≡ raw []) ⊎ (x .content ≡ numbers [])
+      go (yes p) =
+          let two : put ≡ code ∷ 0 ∷ [] = flag-part (x .kind) code (bytesOf x) (omega (arith, is-kind)) in
+          absurd (let f : ⊥ = omega (arith, ends, ap length two) in f)
+      go (no p) =
+          let cut : put ≡ encode (partSize (x .kind)) code (bytesOf x) = kind-parts (x .kind) code (bytesOf x) (λ z. omega arith) in
+          no-content (x .kind) (x .content) proper (omega arith)
+          (no-value (partSize (x .kind)) (some-part (x .kind) (omega arith)) code (bytesOf x) (omega (arith, ends, ap length cut)))
+
+  pub put-nothing : (x .content ≡ raw []) ⊎ (x .content ≡ numbers []) → to ≡ place
+  put-nothing e =
+      let none = no-bytes (x .kind) (x .content) e in
+      let other : x .kind ≡ 15 → ⊥ = λ is. none .1 (flag-only (x .content) (subst (λ (k : ℕ). Proper k (x .content)) is proper)) in
+      let size : 0 < partSize (x .kind) = some-part (x .kind) (omega (arith, is-kind, other)) in
+      let empty : put ≡ [] =
+      kind-parts (x .kind) code (bytesOf x) other ∙ ap (encode (partSize (x .kind)) code) (none .0) ∙ encode-none _ size code in
+      omega (arith, ends, ap length empty)
