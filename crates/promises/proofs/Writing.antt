@@ -12,8 +12,8 @@ typed-reads-back mode code value room place to join proper written some apart jo
     reads-back code value room place to proper written mode join some apart joins
 
 pub closed-reads-back : ClosedReadsBack
-closed-reads-back mode code value room place to closed join proper written some ended joins =
-    closed-back code value room place to proper written mode join closed some ended joins
+closed-reads-back mode code value room place to closed join proper written some joins ended =
+    closed-back code value room place to proper written mode join closed some joins ended
 
 -- no element, in the words of the law
 is-empty : (content : Content) → (content ≡ raw []) ⊎ (content ≡ numbers []) → Empty content

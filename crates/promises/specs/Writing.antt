@@ -1,5 +1,5 @@
--- What the library promises of its typed writers: "what is written by a typed writer and walked back reads as the same value in plain and in
--- strict mode, for every kind".
+-- What the library promises of its typed writers: "what is written by a typed writer and walked back reads as the same value in plain and
+-- in strict mode, for every kind".
 -- `Proper` says what the values of each kind are, and `Apart` that no further part of a code follows: one that does would join.
 -- Assumes nothing.
 use Prim.Native.Nat.{ℕ, _≤_, _<_}
@@ -23,8 +23,7 @@ TypedReadsBack =
     (mode : Mode) (code : ℕ) (value : Value) (room : List ℕ) (place to join : ℕ)
     → Proper (value .kind) (value .content)
     → answerTo (writeValue code value room place) room place ≡ given to
-    → place < to
-    → Apart code (drop to room)
+    → place < to → Apart code (drop to room)
     → mostValue ≤ join
     → readOption mode (step (left code value room place) place join) ≡ given (valued code value to)
 
@@ -34,11 +33,10 @@ ClosedReadsBack =
     (mode : Mode) (code : ℕ) (value : Value) (room : List ℕ) (place to closed join : ℕ)
     → Proper (value .kind) (value .content)
     → answerTo (writeValue code value room place) room place ≡ given to
-    → place < to
-    → answerTo (close (left code value room place) to) (left code value room place) to ≡ given closed
-    → mostValue ≤ join
-    → readOption mode (step (roomAfter (close (left code value room place) to) (left code value room place) to) place join)
-    ≡ given (valued code value to)
+    → place < to → mostValue ≤ join
+    → let after : List ℕ = left code value room place in
+    answerTo (close after to) after to ≡ given closed
+    → readOption mode (step (roomAfter (close after to) after to) place join) ≡ given (valued code value to)
 
 -- a value that has no element: no bytes, or no numbers
 pub data Empty : Content → Type 0 where

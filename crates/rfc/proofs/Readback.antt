@@ -1,15 +1,15 @@
 -- What a typed writer writes and the walk finds reads as the same value, for every kind, in both modes.
 -- Assumes nothing.
 use mathlib.Core.Path.{_≡_, refl, sym, ap, _∙_, subst}
-use Prim.Native.Nat.{ℕ, suc, zero, _+_, _*_, _%_, _^_, _≤_, _<_}
+use Prim.Native.Nat.{ℕ, suc, _+_, _*_, _%_, _^_, _≤_, _<_}
 use mathlib.Core.Logic.{_⊎_, inl, inr}
-use mathlib.Core.Bool.{Bool, true, false, not}
+use mathlib.Core.Bool.{true, false, not}
 use mathlib.Core.List.{List, [], _∷_, _++_, map, flatten}
 use native.Mathlib.Omega.{arith}
 use native.Mathlib.Nat.{suc-mul, mul-mod-left, mod-one}
 use native.Mathlib.Decide.{decLe}
 use borrow.Author.Tests.{ltb-true, ltb-false, eqb-true, eq-eqb, ne-eqb, not-false}
-use lib.Dec.{eqb, ltb}
+use lib.Dec.{ltb}
 use lib.IntN.{ℤ, pos, negsuc}
 use lib.ListN.{length, take, drop, length-append}
 use lib.Seq.{take-all, append-snoc}
@@ -28,9 +28,9 @@ use Rattle.rfc.specs.Numbers.{given, mostBytes, mostValue, padCode, endC
 use Rattle.rfc.specs.Kinds.{kinds, kindOf, sizeOf, sizes}
 use Rattle.rfc.specs.Values.{Content, raw, natural, integer, truth, numbers, nothing, Value, numbersOf, widthOf, valueOf, exactly, multiple, Mode, plain, strict, rules, ruleFor, wrongLength, notText, unclear, read, valued, readOption}
 use Rattle.rfc.specs.Walk.{run, further, walk, option, roomFor, step}
-use Rattle.rfc.specs.Writing.{partsOf, encode, Write, writeChecks, answerTo, roomAfter, close}
+use Rattle.rfc.specs.Writing.{partsOf, encode, writeChecks, answerTo, roomAfter, close}
 use Rattle.rfc.specs.Typed.{digitsOf, bytesIn, bytesOf, partSize, encodeKind, otherKind, oddPairs, codeChecks, valueChecks, writeKind, writeValue, Apart, Below, Seconds, Proper, bytes, address, addresses, pairs, byte, yesNo, u16, u16s, u32, i32, text, codes, nodeType, messageType, threeBytes, flag}
-use Rattle.rfc.proofs.Numbers.{Clear, done, next, passes, given-no, pad-code, end-code}
+use Rattle.rfc.proofs.Numbers.{Clear, next, passes, given-no, pad-code, end-code}
 use Rattle.rfc.proofs.Writing.{encode-none, encode-more, given-left, given-to, given-fits}
 use Rattle.rfc.proofs.Parts.{walk-parts, walk-value}
 use Rattle.rfc.proofs.Values as of
@@ -146,7 +146,7 @@ reads kind content (threeBytes a b c) even =
 reads kind content flag even = exact 15 [] nothing refl refl refl (of.flag-value [])
 
 -- so they are read, to a code of the kind: what strict reading accepts, plain reading reads alike
-pub value-back : (mode : Mode) (code : ℕ) (x : Value) → Proper (x .kind) (x .content) → noCode code ≡ false → kindOf code ≡ x .kind
+value-back : (mode : Mode) (code : ℕ) (x : Value) → Proper (x .kind) (x .content) → noCode code ≡ false → kindOf code ≡ x .kind
     → length (bytesOf x) ≤ mostBytes → oddPairs (x .kind) (bytesOf x) ≡ false → notText (x .kind) (bytesOf x) ≡ false
     → read mode code (bytesOf x) ≡ given x
 value-back mode code x p some is short even utf = go mode
@@ -274,7 +274,7 @@ only-flag kind flag = refl
 flag-only : (content : Content) → Proper 15 content → content ≡ nothing
 flag-only content flag = refl
 
--- an empty value is no part, and only it
+-- only an empty value is no part
 no-value : (size : ℕ) → 0 < size → (code : ℕ) (v : List ℕ) → length (encode size code v) ≡ 0 → v ≡ []
 no-value size some code [] e = refl
 no-value size some code (b ∷ v) e = absurd (let f : ⊥ = omega (arith, ap length (encode-more size some code (b ∷ v) (omega arith))) in f)
@@ -362,10 +362,10 @@ module _ (code : ℕ) (x : Value) (room : List ℕ) (place to : ℕ) (proper : P
       (apart-none code tail (subst (λ (k : ℕ). Apart code (drop k room)) ends apart)) some joins
 
   -- and that room, closed
-  pub closed-back : (mode : Mode) (join closed : ℕ) → place < to → answerTo (close after to) after to ≡ given closed → mostValue ≤ join
+  pub closed-back : (mode : Mode) (join closed : ℕ) → place < to → mostValue ≤ join → answerTo (close after to) after to ≡ given closed
       → readOption mode (step (roomAfter (close after to) after to) place join) ≡ given (valued code x to)
   unfolding close
-  closed-back mode join closed some e joins =
+  closed-back mode join closed some joins e =
       let more : List ℕ = put ++ endCode ∷ [] in
       let tail : List ℕ = drop (place + length more) room in
       let l : length more ≡ length put + 1 = length-append put (endCode ∷ []) in
@@ -383,16 +383,12 @@ module _ (code : ℕ) (x : Value) (room : List ℕ) (place to : ℕ) (proper : P
   -- nothing is written exactly where the value holds no bytes, or no numbers
   pub nothing-put : to ≡ place → (x .content ≡ raw []) ⊎ (x .content ≡ numbers [])
   unfolding partsOf
-  nothing-put e = go (decLe 15 (x .kind))
-    where
-      go : Dec (15 ≤ x .kind) → (x .content ≡ raw []) ⊎ (x .content ≡ numbers [])
-      go (yes p) =
-          let two : put ≡ code ∷ 0 ∷ [] = flag-part (x .kind) code (bytesOf x) (omega (arith, is-kind)) in
-          absurd (let f : ⊥ = omega (arith, ends, ap length two) in f)
-      go (no p) =
-          let cut : put ≡ encode (partSize (x .kind)) code (bytesOf x) = kind-parts (x .kind) code (bytesOf x) (λ z. omega arith) in
-          no-content (x .kind) (x .content) proper (omega arith)
-          (no-value (partSize (x .kind)) (some-part (x .kind) (omega arith)) code (bytesOf x) (omega (arith, ends, ap length cut)))
+  nothing-put e =
+      let other : x .kind ≡ 15 → ⊥ = λ is. omega (arith, ends, ap length (flag-part (x .kind) code (bytesOf x) is)) in
+      let low : x .kind < 15 = omega (arith, is-kind, other) in
+      let none : length (encode (partSize (x .kind)) code (bytesOf x)) ≡ 0 =
+      omega (arith, ends, ap length (kind-parts (x .kind) code (bytesOf x) other)) in
+      no-content (x .kind) (x .content) proper low (no-value (partSize (x .kind)) (some-part (x .kind) low) code (bytesOf x) none)
 
   pub put-nothing : (x .content ≡ raw []) ⊎ (x .content ≡ numbers []) → to ≡ place
   put-nothing e =
