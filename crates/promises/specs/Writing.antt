@@ -1,5 +1,5 @@
--- What the library promises of its typed writers: "what is written by a typed writer and walked back reads as the same value in plain and
--- in strict mode, for every kind".
+-- What the library promises of its typed writers: what one writes and the walk finds again reads as the same value, in plain and in strict
+-- mode, for every kind.
 -- `Proper` says what the values of each kind are, and `Apart` that no further part of a code follows: one that does would join.
 -- Assumes nothing.
 use Prim.Native.Nat.{ℕ, _≤_, _<_}
