@@ -7,8 +7,8 @@ use native.Mathlib.Nat.{not-suc-le-zero, le-refl, div-eq-of-lt, div-eq-sub-div, 
 use lib.Arith.{digits-div}
 use native.Mathlib.Decide.{decLe}
 use mathlib.Core.List.{List, [], _∷_, _++_, flatten}
-use lib.ListN.{length, take, drop, getD, length-drop, take-append-drop}
-use lib.Seq.{take-nil, drop-nil, drop-drop, getD-drop}
+use lib.ListN.{length, take, drop, getD, length-append, length-drop, take-append-drop}
+use lib.Seq.{take-nil, drop-nil, drop-drop, getD-drop, take-at, drop-at}
 use Rattle.facts.specs.Pieces.{piecesIn, pieces}
 
 module _ (size : ℕ) (some : 0 < size) where
@@ -120,3 +120,9 @@ pub piece-lies : (size n index : ℕ) → index < n / size → index * size + si
 piece-lies size n index h =
     let e : index * size + size ≡ suc index * size = sym (suc-mul index size) in
     omega (arith, div-add-mod' n size, mul-le-mul-right size h)
+
+-- a piece of the size itself, in front of what is cut
+pub pieces-front : (size : ℕ) → 0 < size → (p l : List ℕ) → length p ≡ size → pieces size (p ++ l) ≡ p ∷ pieces size l
+pieces-front size some p l e =
+    pieces-more size some (p ++ l) (omega (arith, length-append p l))
+    ∙ (λ i. take-at p l size e i ∷ pieces size (drop-at p l size e i))

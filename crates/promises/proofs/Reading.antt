@@ -1,52 +1,31 @@
 -- Strict reading is plain reading with more refused, by the laws of `rfc`; a number of seconds and its bytes give each other back.
 -- Assumes nothing.
-use mathlib.Core.Path.{_≡_, refl, sym, ap, _∙_}
-use Prim.Native.Nat.{ℕ, zero, suc, _-_, _^_, _<_}
+use mathlib.Core.Path.{_≡_, sym, ap, _∙_}
+use Prim.Native.Nat.{ℕ, zero, suc, _^_, _<_}
 use mathlib.Core.List.{List, [], _∷_}
 use lib.Dec.{lit<}
 use lib.ListN.{length, getD}
 use lib.Seq.{take-all}
 use native.Mathlib.Omega.{arith}
-use native.Mathlib.Nat.{mod-eq-of-lt}
-use lib.IntN.{ℤ, pos, negsuc}
-use mir.Syntax.{w32}
-use mir.Val.{SFits}
+use lib.IntN.{ℤ, pos}
 use Rattle.facts.specs.BigEndian.{number, digits, signed, unsigned}
 use Rattle.facts.specs.Ranges.{within, lookup}
-use Rattle.facts.proofs.BigEndian.{number-below, reads-back, writes-back}
-use Rattle.facts.proofs.Signs.{signed-back, unsigned-back}
-use Rattle.rfc.specs.Numbers.{given, tooLong, noCode, checked}
-use Rattle.rfc.specs.Kinds.{kinds, kindOf, sizes, sizeOf}
-use Rattle.rfc.specs.Values.{Content, raw, natural, integer, truth, numbers, nothing, Value, Mode, plain, strict, contents, valueOf, rules, ruleFor, wrongLength, notText, unclear, readChecks, read}
+use Rattle.facts.proofs.BigEndian.{number-below, writes-back}
+use Rattle.facts.proofs.Signs.{unsigned-back}
+use Rattle.rfc.specs.Numbers.{given}
+use Rattle.rfc.specs.Kinds.{kinds, kindOf}
+use Rattle.rfc.specs.Values.{Content, raw, natural, integer, truth, numbers, nothing, Value, Mode, read}
 use Rattle.rfc.specs.Lists.{Bytes}
 use Rattle.rfc.proofs.Values.{i32, scalar-value}
 use Rattle.rfc.proofs.Readings.{strict-plain, read-right}
-use Rattle.rfc.specs.Typed.{Seconds}
+use Rattle.rfc.proofs.Readback.{seconds-back}
 use Rattle.promises.specs.Reading.{StrictReadsAlike, SecondsReadBack, SecondsWriteBack}
 
 pub strict-reads-alike : StrictReadsAlike
 strict-reads-alike code v value e = strict-plain code v value e
 
-fits : (z : ℤ) → Seconds z → SFits w32 z
-fits (pos n) h = record { sfits = h }
-fits (negsuc n) h = record { sfits = h }
-
-below : (z : ℤ) → Seconds z → unsigned z < 256 ^ 4
-below (pos n) h = omega arith
-below (negsuc n) h = omega arith
-
--- four bytes of the code 2, read
-four : (mode : Mode) (n : ℕ) → read mode 2 (digits 4 n) ≡ given (record { kind = 9; content = integer (signed (number (digits 4 n))) })
-unfolding within lookup tooLong noCode checked kinds kindOf sizes sizeOf contents valueOf rules ruleFor wrongLength notText unclear readChecks read
-four plain n = refl
-four strict n = refl
-
 pub seconds-read-back : SecondsReadBack
-seconds-read-back mode z h =
-    let n : ℕ = unsigned z in
-    let same : number (digits 4 n) ≡ n = reads-back 4 0 n ∙ omega (arith, mod-eq-of-lt (below z h)) in
-    four mode n
-    ∙ ap (λ (x : ℤ). given (record { kind = 9; content = integer x })) (ap signed same ∙ signed-back z (fits z h))
+seconds-read-back mode z h = seconds-back mode z h
 
 -- a byte at any place
 byte-below : (v : List ℕ) → Bytes v → (i : ℕ) → getD v i 0 < 256

@@ -1,13 +1,14 @@
 -- The walk over the bytes of one written value: it is one option, whatever the size of its parts.
 -- Assumes nothing.
 use mathlib.Core.Path.{_≡_, refl, sym, ap, _∙_}
-use Prim.Native.Nat.{ℕ, _+_, _-_, _*_, _≤_, _<_}
+use Prim.Native.Nat.{ℕ, _+_, _*_, _≤_, _<_}
 use native.Mathlib.Omega.{arith}
 use mathlib.Core.List.{List, [], _∷_, _++_, append-assoc, flatten}
 use lib.ListN.{length, take, drop, length-append, take-append-drop}
 use lib.Seq.{take-append-seam, drop-append-seam}
 use Rattle.facts.specs.Pieces.{pieces}
 use Rattle.facts.proofs.Pieces.{pieces-more, flatten-pieces}
+use Rattle.rfc.specs.Numbers.{padCode, endCode}
 use Rattle.rfc.specs.Walk.{run, extend, further, joined, walk, option}
 use Rattle.rfc.specs.Writing.{partsOf, encode}
 use Rattle.rfc.proofs.Walk.{further-more, walk-code, behind-whole, joined-run}
@@ -34,8 +35,8 @@ module _ (code : ℕ) (tail : List ℕ) (other : further code tail ≡ run 0 [])
       ∙ (λ i. extend (front p (partsOf code ps) i) (further code (back p (partsOf code ps) i)))
       ∙ ap (extend p) (all-further ps)
 
-  module _ (low : 1 ≤ code) (high : code ≤ 254) where
-    walk-parts : (at : ℕ) (p : List ℕ) (ps : List (List ℕ))
+  module _ (no-pad : code ≡ padCode → ⊥) (no-end : code ≡ endCode → ⊥) where
+    pub walk-parts : (at : ℕ) (p : List ℕ) (ps : List (List ℕ))
         → walk at (partsOf code (p ∷ ps) ++ tail) ≡ option code (p ++ flatten ps) (length ps + 1) (at + length (partsOf code (p ∷ ps)))
     unfolding partsOf
     walk-parts at p ps =
@@ -43,18 +44,18 @@ module _ (code : ℕ) (tail : List ℕ) (other : further code tail ≡ run 0 [])
         let behind-first : ℕ = at + 1 + 1 + length p in
         let e : behind-first + (2 * length ps + length (flatten ps)) ≡ at + length (partsOf code (p ∷ ps)) =
         omega (arith, length-parts code ps, length-append p (partsOf code ps)) in
-        walk-code at code (length p ∷ more) (λ z. omega arith) (λ z. omega arith)
+        walk-code at code (length p ∷ more) no-pad no-end
         ∙ behind-whole code (at + 1) (length p) more (fits p (partsOf code ps))
         ∙ (λ i. joined code (front p (partsOf code ps) i) behind-first (further code (back p (partsOf code ps) i)))
         ∙ joined-run code p behind-first _ (length ps) (flatten ps) (all-further ps)
         ∙ ap (option code (p ++ flatten ps) (length ps + 1)) e
 
     -- a written value is walked as one option
-    pub walk-encode : (size : ℕ) → 0 < size → (at : ℕ) (v : List ℕ) → 1 ≤ length v
+    pub walk-value : (size : ℕ) → 0 < size → (at : ℕ) (v : List ℕ) → 1 ≤ length v
         → walk at (encode size code v ++ tail)
         ≡ option code v (length (pieces size (drop size v)) + 1) (at + length (encode size code v))
     unfolding encode
-    walk-encode size some at v h =
+    walk-value size some at v h =
         let rest : List (List ℕ) = pieces size (drop size v) in
         let e : pieces size v ≡ take size v ∷ rest = pieces-more size some v h in
         let whole : take size v ++ flatten rest ≡ v =
@@ -62,3 +63,9 @@ module _ (code : ℕ) (tail : List ℕ) (other : further code tail ≡ run 0 [])
         ap (λ (ps : List (List ℕ)). walk at (partsOf code ps ++ tail)) e
         ∙ walk-parts at (take size v) rest
         ∙ (λ i. option code (whole i) (length rest + 1) (at + length (partsOf code (sym e i))))
+
+  -- of a code from 1 to 254
+  pub walk-encode : 1 ≤ code → code ≤ 254 → (size : ℕ) → 0 < size → (at : ℕ) (v : List ℕ) → 1 ≤ length v
+      → walk at (encode size code v ++ tail)
+      ≡ option code v (length (pieces size (drop size v)) + 1) (at + length (encode size code v))
+  walk-encode low high = walk-value (λ z. omega arith) (λ z. omega arith)
