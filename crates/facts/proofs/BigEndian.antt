@@ -65,10 +65,5 @@ writes-back h (x ∷ xs) b =
     ∙ ap (λ (k : ℕ). k ∷ digits (length xs) (numberFrom (h * 256 + x) xs)) (digits-mod h (b 0))
     ∙ ap (λ (l : List ℕ). x ∷ l) (writes-back (h * 256 + x) xs rest)
 
--- a number written as w bytes has w bytes, and one below 256 ^ w is what they are
-pub length-digits : (w n : ℕ) → length (digits w n) ≡ w
-length-digits zero n = refl
-length-digits (suc w) n = ap suc (length-digits w n)
-
 pub number-digits : (w n : ℕ) → n < 256 ^ w → number (digits w n) ≡ n
 number-digits w n h = reads-back w 0 n ∙ omega (arith, mod-eq-of-lt h)
