@@ -65,5 +65,6 @@ writes-back h (x ∷ xs) b =
     ∙ ap (λ (k : ℕ). k ∷ digits (length xs) (numberFrom (h * 256 + x) xs)) (digits-mod h (b 0))
     ∙ ap (λ (l : List ℕ). x ∷ l) (writes-back (h * 256 + x) xs rest)
 
+-- one below 256 ^ w is the number of its w bytes
 pub number-digits : (w n : ℕ) → n < 256 ^ w → number (digits w n) ≡ n
 number-digits w n h = reads-back w 0 n ∙ omega (arith, mod-eq-of-lt h)

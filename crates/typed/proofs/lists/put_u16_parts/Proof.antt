@@ -1,67 +1,82 @@
+-- `put_u16_parts` meets its contract: after each turn some whole parts are written (`Cut`), and the next one fits.
+-- Assumes nothing.
+use Prim.Native.Nat.{_+_, _-_, _*_, _≤_, _<_}
+use native.Mathlib.Omega.{arith}
+use lib.Dec.{lit<}
+use lib.ListN.{length}
+use Rattle.rfc.specs.Writing.{encode}
+use Rattle.rfc.specs.Typed.{digitsOf}
+use Rattle.typed.proofs.Cuts.{Cut, cut-none, cut-fits, cut-more, cut-all}
+use borrow.Author.Needs.{needs}
 use Rattle.typed.proofs.lists.put_u16_parts.Statement.{statement}
 use Rattle.typed.proofs.lists.put_u16_parts.Tie as tie
-use Rattle.typed.proofs.lists.put_u16_parts.Reads as reads
-use Rattle.typed.proofs.lists.put_u16_parts.Lts as lts
-use Rattle.typed.proofs.lists.next_piece.Reads as next-piece-reads
-use Rattle.typed.proofs.lists.put_u16_part.Reads as put-u16-part-reads
 
 abbrev Inv-loop : tie.InvT-loop
-Inv-loop room₀ place code numbers most done₀ from₀ room done from = ?
+Inv-loop room₀ place code numbers most done₀ from₀ room done from = Cut 2 most room₀ room numbers place code done from
 
 abbrev μ-loop : tie.MeasureT-loop
-μ-loop room₀ place code numbers most done₀ from₀ room done from = ?
+μ-loop room₀ place code numbers most done₀ from₀ room done from = length numbers - from
 
--- src/lists.rt:153:5
+-- the arguments, in a turn of the loop, and what they are ready for
+abbrev begun : tie.After-next-piece Inv-loop μ-loop → tie.Start Inv-loop μ-loop
+begun c = c .before .before .before .before .before
+
+-- a part has some bytes
+some : (c : tie.Start Inv-loop μ-loop) → 0 < 2 * c .args .most
+some c = omega (arith, c .pre .some)
+
+-- the next part is among the bytes that are to be written
+fits : (c : tie.After-next-piece Inv-loop μ-loop)
+    → c .before .before .loop .done + (2 + 2 * c .next-piece .result)
+    ≤ length (encode (2 * begun c .args .most) (begun c .args .code) (digitsOf 2 (begun c .args .numbers .now)))
+fits c =
+    cut-fits 2 (begun c .args .most) (lit< tt) (some (begun c)) (c .before .before .loop .inv) (c .before .loop-test .taken)
+    (c .next-piece .ensures)
+
 loop-holds : tie.Need-loop-holds Inv-loop μ-loop
-loop-holds c = ?
+loop-holds c = cut-none 2 (c .before .before .args .most) (lit< tt) (some (c .before .before))
 
--- src/lists.rt:154:28
 sub-next-piece : tie.Need-sub-next-piece Inv-loop μ-loop
-sub-next-piece c = ?
+sub-next-piece c = omega arith
 
--- src/lists.rt:154:13
 next-piece-requires : tie.Need-next-piece-requires Inv-loop μ-loop
-next-piece-requires c κs = ?
+next-piece-requires c κs = search needs
 
--- src/lists.rt:155:28
 add-put-u16-part : tie.Need-add-put-u16-part Inv-loop μ-loop
-add-put-u16-part c = ?
+add-put-u16-part c = omega (arith, fits (c .before), begun (c .before) .pre .fits)
 
--- src/lists.rt:155:9
 put-u16-part-requires : tie.Need-put-u16-part-requires Inv-loop μ-loop
-put-u16-part-requires c κs = ?
+put-u16-part-requires c κs = omega (arith, fits (c .before), begun (c .before) .pre .fits, begun (c .before) .pre .least)
 
--- src/lists.rt:156:16
 add-done : tie.Need-add-done Inv-loop μ-loop
-add-done c = ?
+add-done c = omega (arith, fits (c .before .before .before .before), begun (c .before .before .before .before) .pre .fits)
 
--- src/lists.rt:156:27
 mul-done : tie.Need-mul-done Inv-loop μ-loop
-mul-done c = ?
+mul-done c = omega (arith, fits (c .before .before .before .before), begun (c .before .before .before .before) .pre .fits)
 
--- src/lists.rt:156:16
 add-done-2 : tie.Need-add-done-2 Inv-loop μ-loop
-add-done-2 c = ?
+add-done-2 c = omega (arith, fits (c .before .before .before .before), begun (c .before .before .before .before) .pre .fits)
 
--- src/lists.rt:157:9
 add-from : tie.Need-add-from Inv-loop μ-loop
-add-from c = ?
+add-from c = omega arith
 
--- src/lists.rt:153:5
 loop-less : tie.Need-loop-less Inv-loop μ-loop
-loop-less c = ?
+loop-less c = omega (arith, begun (c .before .before .before .before) .pre .some)
 
--- src/lists.rt:153:5
 loop-again : tie.Need-loop-again Inv-loop μ-loop
-loop-again c = ?
+loop-again c =
+    let turn = c .before .before .before .before in
+    let wrote = c .before .before .put-u16-part in
+    cut-more 2 (begun turn .args .most) (lit< tt) (some (begun turn)) (turn .before .before .loop .inv) (turn .before .loop-test .taken)
+    (turn .next-piece .ensures) (wrote .last .0) (begun turn .pre .fits) (wrote .kept .0) (wrote .ensures)
 
--- src/lists.rt:147:1
 same-length : tie.Need-same-length Inv-loop μ-loop
-same-length c = ?
+same-length c = c .before .loop .inv .parts .keeps
 
--- src/lists.rt:147:1
 returns : tie.Need-returns Inv-loop μ-loop
-returns c = ?
+returns c =
+    let start = c .before .before .before .before in
+    cut-all 2 (start .args .most) (lit< tt) (some start) (c .before .loop .inv) (c .loop-test .left)
 
 pub put-u16-parts-spec : {M : Type 1} → statement M
 put-u16-parts-spec =

@@ -1,30 +1,31 @@
+-- `size_in_parts` meets its contract: the sum stays small.
+-- Assumes nothing.
+use Prim.Native.Nat.{_+_, _-_, _/_, _≤_}
+use native.Mathlib.Omega.{arith}
+use native.Mathlib.Nat.{div-le-self}
 use borrow.Author.Needs.{needs}
 use Rattle.typed.proofs.lists.size_in_parts.Statement.{statement}
 use Rattle.typed.proofs.lists.size_in_parts.Tie as tie
-use Rattle.typed.proofs.lists.size_in_parts.Reads as reads
-use Rattle.typed.proofs.lists.size_in_parts.Lts as lts
 
--- src/lists.rt:121:24
+-- no more parts than bytes and one part's bytes
+few : (c : tie.Start) → (c .args .len + (c .args .most - 1)) / c .args .most ≤ c .args .len + (c .args .most - 1)
+few c = div-le-self (c .args .len + (c .args .most - 1)) (c .args .most)
+
 sub-result : tie.Need-sub-result
 sub-result c = search needs
 
--- src/lists.rt:121:17
 add-result : tie.Need-add-result
 add-result c = search needs
 
--- src/lists.rt:121:16
 div-result : tie.Need-div-result
 div-result c = search needs
 
--- src/lists.rt:121:11
 mul-result : tie.Need-mul-result
-mul-result c = ?
+mul-result c = omega (arith, few c)
 
--- src/lists.rt:121:5
 add-result-2 : tie.Need-add-result-2
-add-result-2 c = ?
+add-result-2 c = omega (arith, few c)
 
--- src/lists.rt:117:1
 returns : tie.Need-returns
 returns c = search needs
 
