@@ -81,10 +81,10 @@ pub fn write_node_type(room: &mut [u8], place: usize, code: u8, node: Node) -> W
 }
 
 // Writes a message type.
-pub fn write_message_type(room: &mut [u8], place: usize, code: u8, message_type: u8) -> Written
-    ensures { λ r. ⌜ Writes 13 (natural message_type) code (now (room .entry)) (now (room .exit)) place r ⌝ }
+pub fn write_message_type(room: &mut [u8], place: usize, code: u8, byte: u8) -> Written
+    ensures { λ r. ⌜ Writes 13 (natural byte) code (now (room .entry)) (now (room .exit)) place r ⌝ }
 {
-    checks::write_as(room, place, code, kinds::MESSAGE_TYPE, &[message_type])
+    checks::write_as(room, place, code, kinds::MESSAGE_TYPE, &[byte])
 }
 
 // Writes three bytes.
