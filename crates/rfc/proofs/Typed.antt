@@ -18,7 +18,8 @@ use Rattle.rfc.specs.Numbers.{refused, given, mostBytes, mostValue, most
 use Rattle.rfc.specs.Kinds.{kindOf, sizes, sizeOf}
 use Rattle.rfc.specs.Values.{Content, numbers, widthOf, notText}
 use Rattle.rfc.specs.Writing.{encode, Write, writeChecks, answerTo, roomLeft, roomAfter, writeSlice, writeBytes}
-use Rattle.rfc.specs.Typed.{digitsOf, bytesIn, partSize, encodeKind, otherKind, oddPairs, codeChecks, valueChecks, writeKind, writeValue}
+use Rattle.rfc.specs.Typed.{digitsOf, bytesIn, partSize, encodeKind, otherKind, oddPairs, codeChecks, valueChecks}
+use Rattle.rfc.specs.Typed.{writeKind, writeValue}
 use Rattle.rfc.proofs.Numbers.{Refuses, here, later, refuses-front, refuses-behind, Clear, done, next, clear-both, long, not-long, not-too-long, past, not-past, place-within, pad-code, end-code, a-code, much, not-much, full, not-full}
 use Rattle.rfc.proofs.Values.{value, Scalar, address, byte, yesNo, u16, u32, i32, nodeType, messageType, threeBytes}
 use Rattle.rfc.proofs.Writing.{encode-none, encode-more, write-refused, write-given, given-left}

@@ -39,4 +39,13 @@ returns-2 c =
     (c .before .before .write-slice .ensures))
 
 pub write-flag-spec : {M : Type 1} → statement M
-write-flag-spec = tie.close (tie.spec refusal-requires same-length returns slice-aggregate-write-slice write-slice-requires same-length-2 returns-2)
+write-flag-spec =
+    tie.close
+    (tie.spec
+    refusal-requires
+    same-length
+    returns
+    slice-aggregate-write-slice
+    write-slice-requires
+    same-length-2
+    returns-2)

@@ -1,6 +1,6 @@
 -- `write_i32` meets its contract: the bytes are the digits of the bits that stand for the number.
 -- Assumes nothing.
-use mathlib.Core.Path.{_≡_, ap, _∙_}
+use mathlib.Core.Path.{ap, _∙_}
 use denote.Ref.{now}
 use mir.Syntax.{w32}
 use mir.Facts.{toZ-ofZ}

@@ -2,10 +2,9 @@
 -- Assumes nothing.
 use mathlib.Core.Path.{refl, sym}
 use denote.Ref.{now}
-use Rattle.rfc.specs.Values.{natural}
 use Rattle.rfc.proofs.Values.{messageType}
 use Rattle.rfc.proofs.Typed.{digits-byte}
-use Rattle.typed.proofs.Answers.{holds, scalar-as, digits-in}
+use Rattle.typed.proofs.Answers.{scalar-as, holds-number}
 use borrow.Author.Needs.{needs}
 use Rattle.typed.proofs.write_message_type.Statement.{statement}
 use Rattle.typed.proofs.write_message_type.Tie as tie
@@ -22,7 +21,7 @@ same-length c = search needs
 returns : tie.Need-returns
 returns c =
     let a = c .before .before .before .before .before .before .args in
-    holds 13 (a .code) _ (now (a .room)) (a .place) (natural (a .byte)) (digits-in messageType (a .byte) (sym (digits-byte (a .byte) (search needs))))
+    holds-number messageType (a .code) _ (now (a .room)) (a .place) (a .byte) (sym (digits-byte (a .byte) (search needs)))
     (c .before .before .write-as .ensures)
 
 pub write-message-type-spec : {M : Type 1} → statement M

@@ -3,11 +3,10 @@
 use mathlib.Core.Path.{refl, sym, ap, _∙_}
 use denote.Ref.{now}
 use Rattle.facts.specs.BigEndian.{digits}
-use Rattle.rfc.specs.Values.{natural}
 use Rattle.values.specs.Reading.{byteOf}
 use Rattle.rfc.proofs.Values.{nodeType}
 use Rattle.rfc.proofs.Typed.{digits-byte}
-use Rattle.typed.proofs.Answers.{holds, scalar-as, digits-in}
+use Rattle.typed.proofs.Answers.{scalar-as, holds-number}
 use borrow.Author.Needs.{needs}
 use Rattle.typed.proofs.write_node_type.Statement.{statement}
 use Rattle.typed.proofs.write_node_type.Tie as tie
@@ -28,8 +27,8 @@ returns : tie.Need-returns
 returns c =
     let a = c .before .before .before .before .before .before .before .args in
     let byte = c .before .before .before .before .before .byte-of in
-    holds 12 (a .code) _ (now (a .room)) (a .place) (natural (byteOf (a .node)))
-    (digits-in nodeType (byteOf (a .node)) (sym (digits-byte (byte .result) (search needs)) ∙ ap (digits 1) (byte .ensures)))
+    holds-number nodeType (a .code) _ (now (a .room)) (a .place) (byteOf (a .node))
+    (sym (digits-byte (byte .result) (search needs)) ∙ ap (digits 1) (byte .ensures))
     (c .before .before .write-as .ensures)
 
 pub write-node-type-spec : {M : Type 1} → statement M

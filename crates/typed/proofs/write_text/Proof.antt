@@ -1,7 +1,7 @@
 -- `write_text` meets its contract: a refusal by its number, 11 where the text is not UTF-8, or a byte value's write.
 -- Assumes nothing.
-use mathlib.Core.Path.{_≡_, refl, sym, ap, _∙_}
-use mathlib.Core.Bool.{true, false, not}
+use mathlib.Core.Path.{refl, sym, ap, _∙_}
+use mathlib.Core.Bool.{not}
 use native.Mathlib.Omega.{arith}
 use denote.Ref.{now}
 use Rattle.rfc.specs.Values.{raw}
@@ -56,4 +56,15 @@ returns-3 c =
     holds 10 (a .code) (now (a .text)) (now (a .room)) (a .place) (raw (now (a .text))) refl (c .before .before .write-as .ensures)
 
 pub write-text-spec : {M : Type 1} → statement M
-write-text-spec = tie.close (tie.spec refusal-requires same-length returns is-utf8-requires same-length-2 returns-2 write-as-requires same-length-3 returns-3)
+write-text-spec =
+    tie.close
+    (tie.spec
+    refusal-requires
+    same-length
+    returns
+    is-utf8-requires
+    same-length-2
+    returns-2
+    write-as-requires
+    same-length-3
+    returns-3)

@@ -1,9 +1,8 @@
 -- `write_u16` meets its contract: the bytes are the digits of the number.
 -- Assumes nothing.
 use denote.Ref.{now}
-use Rattle.rfc.specs.Values.{natural}
 use Rattle.rfc.proofs.Values.{u16}
-use Rattle.typed.proofs.Answers.{holds, digits-as, digits-in}
+use Rattle.typed.proofs.Answers.{digits-as, holds-number}
 use borrow.Author.Needs.{needs}
 use Rattle.typed.proofs.write_u16.Statement.{statement}
 use Rattle.typed.proofs.write_u16.Tie as tie
@@ -23,7 +22,7 @@ same-length c = search needs
 returns : tie.Need-returns
 returns c =
     let a = c .before .before .before .before .before .before .before .args in
-    holds 6 (a .code) _ (now (a .room)) (a .place) (natural (a .number)) (digits-in u16 (a .number) (c .before .before .before .before .before .u16-bytes .ensures))
+    holds-number u16 (a .code) _ (now (a .room)) (a .place) (a .number) (c .before .before .before .before .before .u16-bytes .ensures)
     (c .before .before .write-as .ensures)
 
 pub write-u16-spec : {M : Type 1} → statement M
