@@ -1,6 +1,6 @@
 -- `refusal` meets its contract: a law of `codeChecks` for each return.
 -- Assumes nothing.
-use mathlib.Core.Path.{sym, _∙_}
+use mathlib.Core.Path.{_≡_, sym, _∙_}
 use lib.Dec.{lit<}
 use denote.Ref.{now}
 use Rattle.rfc.proofs.Typed.{code-2, code-4, code-pad, code-end, code-9, code-clear}
@@ -45,8 +45,9 @@ returns-5 c =
     let within = coded .before .before .if2 .left in
     let pad = coded .before .if3 .left in
     let end = coded .if4 .left in
+    let other : c .before .kind-of .result ≡ a .kind → ⊥ = c .if5 .taken in
     first (lit< tt)
-    (code-9 (a .kind) (a .code) (now (a .room)) (a .place) short within pad end (λ e. c .if5 .taken (c .before .kind-of .ensures ∙ e)))
+    (code-9 (a .kind) (a .code) (now (a .room)) (a .place) short within pad end (λ e. other (c .before .kind-of .ensures ∙ e)))
 
 returns-6 : tie.Need-returns-6
 returns-6 c =
