@@ -1,10 +1,13 @@
 -- `write_text` meets its contract: a refusal by its number, 11 where the text is not UTF-8, or a byte value's write.
 -- Assumes nothing.
-use mathlib.Core.Path.{refl, sym, ap, _∙_}
-use mathlib.Core.Bool.{not}
+use mathlib.Core.Path.{_≡_, refl, sym, ap, _∙_}
+use Prim.Native.Nat.{ℕ}
+use mathlib.Core.Bool.{Bool, not}
+use mathlib.Core.List.{List}
 use native.Mathlib.Omega.{arith}
 use denote.Ref.{now}
-use Rattle.rfc.specs.Values.{raw}
+use Rattle.rfc.specs.Text.{utf8}
+use Rattle.rfc.specs.Values.{raw, notText}
 use Rattle.rfc.proofs.Readings.{text-kind}
 use Rattle.rfc.proofs.Typed.{no-pairs, kind-11}
 use Rattle.encoder.proofs.Answers.{refuses}
@@ -12,6 +15,10 @@ use Rattle.typed.proofs.Answers.{decides-none, code-refused, holds, tex
 use borrow.Author.Needs.{needs}
 use Rattle.typed.proofs.write_text.Statement.{statement}
 use Rattle.typed.proofs.write_text.Tie as tie
+
+-- the test of 11, by what `is_utf8` answers
+told : (v : List ℕ) {is test : Bool} → is ≡ utf8 v → not is ≡ test → notText 10 v ≡ test
+told v e t = text-kind 10 v refl ∙ ap not (sym e) ∙ t
 
 refusal-requires : tie.Need-refusal-requires
 refusal-requires c κs = search needs
@@ -36,16 +43,13 @@ returns-2 c =
     let tested = c .before .before in
     let a = tested .before .before .before .before .before .args in
     let v = now (a .text) in
-    let wrong = text-kind 10 v refl ∙ ap not (sym (c .before .is-utf8 .ensures)) ∙ c .if2 .taken in
     holds 10 (a .code) v (now (a .room)) (a .place) (raw v) refl
     (refuses _ (now (a .room)) (a .place) 11
     (kind-11 10 (a .code) v (now (a .room)) (a .place) (decides-none (tested .before .refusal .ensures) (tested .if1 .left))
-    (no-pairs 10 v (λ z. omega arith)) wrong))
+    (no-pairs 10 v (λ z. omega arith)) (told v (c .before .is-utf8 .ensures) (c .if2 .taken))))
 
 write-as-requires : tie.Need-write-as-requires
-write-as-requires c κs =
-    let checked = c .before in
-    text-as (text-kind 10 _ refl ∙ ap not (sym (checked .before .is-utf8 .ensures)) ∙ checked .if2 .left)
+write-as-requires c κs = text-as (told _ (c .before .before .is-utf8 .ensures) (c .before .if2 .left))
 
 same-length-3 : tie.Need-same-length-3
 same-length-3 c = search needs
