@@ -1,7 +1,7 @@
 -- The laws of `specs/Typed.antt`: the bytes of numbers, the parts of each kind, and a typed write by its checks.
 -- Assumes nothing.
 use mathlib.Core.Path.{_≡_, refl, sym, ap, _∙_}
-use Prim.Native.Nat.{ℕ, zero, suc, _+_, _*_, _%_, _≤_, _<_}
+use Prim.Native.Nat.{ℕ, zero, suc, _+_, _*_, _/_, _%_, _^_, _≤_, _<_}
 use mathlib.Core.Bool.{true, false, not}
 use native.Mathlib.Omega.{arith}
 use native.Mathlib.Nat.{mul-suc}
@@ -11,15 +11,17 @@ use lib.Dec.{lit<, eqb}
 use lib.ListN.{length, take, drop, getD, length-append, drop-of-length-le}
 use lib.Seq.{drop-cons, take-nil, drop-nil, take-all, take-append-add, drop-append-add}
 use Rattle.facts.specs.BigEndian.{digits}
-use Rattle.facts.proofs.BigEndian.{length-digits}
+use Rattle.facts.proofs.BigEndian.{Bytes, length-digits}
 use Rattle.facts.specs.Over.{over}
+use Rattle.facts.specs.Ranges.{lookup, within}
 use Rattle.rfc.specs.Numbers.{refused, given, mostBytes, mostValue, mostPart, padCode, endCode, checked}
 use Rattle.rfc.specs.Kinds.{kindOf, sizes, sizeOf}
-use Rattle.rfc.specs.Values.{notText}
-use Rattle.rfc.specs.Writing.{encode, Write, writeChecks, answerTo, roomLeft, roomAfter, writeBytes}
-use Rattle.rfc.specs.Typed.{digitsOf, partSize, encodeKind, otherKind, oddPairs, codeChecks, valueChecks, writeKind}
+use Rattle.rfc.specs.Values.{Content, numbers, widthOf, notText}
+use Rattle.rfc.specs.Writing.{encode, Write, writeChecks, answerTo, roomLeft, roomAfter, writeSlice, writeBytes}
+use Rattle.rfc.specs.Typed.{digitsOf, bytesIn, partSize, encodeKind, otherKind, oddPairs, codeChecks, valueChecks}
+use Rattle.rfc.specs.Typed.{writeKind, writeValue}
 use Rattle.rfc.proofs.Numbers.{Refuses, here, later, refuses-front, refuses-behind, Clear, done, next, clear-both, long, not-long, not-too-long, past, not-past, place-within, pad-code, end-code, a-code, much, not-much, full, not-full}
-use Rattle.rfc.proofs.Values.{Scalar, address, byte, yesNo, u16, u32, i32, nodeType, messageType, threeBytes}
+use Rattle.rfc.proofs.Values.{value, Scalar, address, byte, yesNo, u16, u32, i32, nodeType, messageType, threeBytes}
 use Rattle.rfc.proofs.Writing.{encode-none, encode-more, write-refused, write-given, given-left}
 
 -- the bytes of numbers, each of so many
@@ -233,3 +235,37 @@ module _ (kind code : ℕ) (v room : List ℕ) (place : ℕ) where
                 → (answerTo (writeBytes code v room place) room place ≡ answerTo write room place)
                 × (roomAfter (writeBytes code v room place) room place ≡ roomAfter write room place)
             go (next w (next x (next y (next z done)))) = (rw (w, x, y, z, b, c, e), rw (w, x, y, z, b, c, e))
+
+-- where only the end of the room can refuse it, it is the write of its parts as they stand
+pub kind-slice : (kind code : ℕ) (v room : List ℕ) (place : ℕ) → Clear (codeChecks kind code room place) → oddPairs kind v ≡ false
+    → notText kind v ≡ false → length v ≤ mostValue
+    → (answerTo (writeSlice (encodeKind kind code v) room place) room place ≡ answerTo (writeKind kind code v room place) room place)
+    × (roomAfter (writeSlice (encodeKind kind code v) room place) room place ≡ roomAfter (writeKind kind code v room place) room place)
+unfolding answerTo roomAfter writeChecks writeKind writeSlice codeChecks valueChecks checked
+kind-slice kind code v room place (next w (next x (next y (next z done)))) b c d =
+    let m = not-much v d in
+    (rw (w, x, y, z, b, c, m), rw (w, x, y, z, b, c, m))
+
+-- a typed value is written by its kind and its bytes
+pub value-kind : (kind code : ℕ) (content : Content) (room : List ℕ) (place : ℕ)
+    → writeValue code (value kind content) room place ≡ writeKind kind code (bytesIn kind content) room place
+unfolding writeValue
+value-kind kind code content room place = refl
+
+-- a number below 256 is its one byte
+pub digits-byte : (n : ℕ) → n < 256 → digits 1 n ≡ n ∷ []
+digits-byte n h =
+    let e : n / 256 ^ 0 % 256 ≡ n = omega arith in
+    ap (λ (k : ℕ). k ∷ []) e
+
+-- numbers of one byte are their bytes, and so are codes
+digits-bytes : (v : List ℕ) → Bytes v → digitsOf 1 v ≡ v
+unfolding digitsOf flatten
+digits-bytes [] b = refl
+digits-bytes (x ∷ v) b =
+    let rest : Bytes v = λ i. b (suc i) in
+    ap (λ (l : List ℕ). l ++ digitsOf 1 v) (digits-byte x (b 0)) ∙ ap (λ (l : List ℕ). x ∷ l) (digits-bytes v rest)
+
+pub codes-bytes : (v : List ℕ) → Bytes v → bytesIn 11 (numbers v) ≡ v
+unfolding widthOf lookup within
+codes-bytes v b = digits-bytes v b

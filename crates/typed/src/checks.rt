@@ -30,7 +30,8 @@ pub(crate) fn refusal(room: &[u8], place: usize, code: u8, kind: u8) -> u8
 // Writes the bytes of a value of a kind, where its parts are those of a byte value.
 pub(crate) fn write_as(room: &mut [u8], place: usize, code: u8, kind: u8, bytes: &[u8]) -> Written
     requires { ⌜ AsBytes kind code (now bytes) ⌝ }
-    ensures { λ r. ⌜ Wrote (writeKind kind code (now (bytes .entry)) (now (room .entry)) place) (now (room .entry)) (now (room .exit)) place r ⌝ }
+    ensures { λ r. ⌜ Wrote (writeKind kind code (now (bytes .entry)) (now (room .entry)) place)
+        (now (room .entry)) (now (room .exit)) place r ⌝ }
 {
     let number = refusal(room, place, code, kind);
     if number > 0 {

@@ -1,9 +1,10 @@
-// A writer for each kind of value, as the plain arms of the crate's `DhcpOption::encode` have it. Each takes a code of its kind, a lent room
-// and a place. Here are the kinds that hold one thing; `lists` has those that hold many.
+// A writer for each kind of value, as the plain arms of the crate's `DhcpOption::encode` have it. Each takes a code of its kind, a lent
+// room and a place. Here are the kinds that hold one thing; `lists` has those that hold many.
 mod checks;
 pub mod lists;
 
 ghost use mathlib.Core.Path.{_≡_};
+ghost use mathlib.Core.Bool.{cond};
 ghost use mathlib.Core.List.{[], _∷_};
 ghost use Rattle.rfc.specs.Values.{raw, natural, integer, truth, nothing};
 ghost use Rattle.values.specs.Reading.{byteOf};
@@ -30,7 +31,7 @@ pub fn write_byte(room: &mut [u8], place: usize, code: u8, byte: u8) -> Written
 pub fn write_yes_no(room: &mut [u8], place: usize, code: u8, yes: bool) -> Written
     ensures { λ r. ⌜ Writes 5 (truth yes) code (now (room .entry)) (now (room .exit)) place r ⌝ }
 {
-    let byte: u8 = if yes { 1 } else { 0 };
+    let byte = yes_byte(yes);
     checks::write_as(room, place, code, kinds::YES_NO, &[byte])
 }
 
@@ -81,10 +82,10 @@ pub fn write_node_type(room: &mut [u8], place: usize, code: u8, node: Node) -> W
 }
 
 // Writes a message type.
-pub fn write_message_type(room: &mut [u8], place: usize, code: u8, message_type: u8) -> Written
-    ensures { λ r. ⌜ Writes 13 (natural message_type) code (now (room .entry)) (now (room .exit)) place r ⌝ }
+pub fn write_message_type(room: &mut [u8], place: usize, code: u8, byte: u8) -> Written
+    ensures { λ r. ⌜ Writes 13 (natural byte) code (now (room .entry)) (now (room .exit)) place r ⌝ }
 {
-    checks::write_as(room, place, code, kinds::MESSAGE_TYPE, &[message_type])
+    checks::write_as(room, place, code, kinds::MESSAGE_TYPE, &[byte])
 }
 
 // Writes three bytes.
@@ -116,6 +117,13 @@ pub fn write_flag(room: &mut [u8], place: usize, code: u8) -> Written
         return Written::Refused(number);
     }
     encoder::write_slice(room, place, &[code, 0])
+}
+
+// The byte of yes, and of no.
+fn yes_byte(yes: bool) -> u8
+    ensures { λ r. ⌜ r ≡ cond yes 1 0 ⌝ }
+{
+    if yes { 1 } else { 0 }
 }
 
 // The byte of a node type.
