@@ -4,13 +4,13 @@
 -- Assumes nothing.
 use Prim.Native.Nat.{ℕ, _≤_, _<_}
 use mathlib.Core.Path.{_≡_}
-use mathlib.Core.List.{List, []}
+use mathlib.Core.List.{List}
 use lib.ListN.{drop}
 use Rattle.rfc.specs.Numbers.{given, mostValue}
 use Rattle.rfc.specs.Walk.{step}
-use Rattle.rfc.specs.Values.{Content, raw, numbers, Value, Mode, valued, readOption}
+use Rattle.rfc.specs.Values.{Value, Mode, valued, readOption}
 use Rattle.rfc.specs.Writing.{answerTo, roomAfter, close}
-use Rattle.rfc.specs.Typed.{writeValue, Proper, Apart}
+use Rattle.rfc.specs.Typed.{writeValue, Proper, Empty, Apart}
 
 -- the room that a typed write leaves
 abbrev pub left : ℕ → Value → List ℕ → ℕ → List ℕ
@@ -38,12 +38,7 @@ ClosedReadsBack =
     answerTo (close after to) after to ≡ given closed
     → readOption mode (step (roomAfter (close after to) after to) place join) ≡ given (valued code value to)
 
--- a value that has no element: no bytes, or no numbers
-pub data Empty : Content → Type 0 where
-  noBytes : Empty (raw [])
-  noNumbers : Empty (numbers [])
-
--- nothing is written exactly of such a value; a flag, which holds nothing, is written
+-- nothing is written exactly of a value that has no element; a flag, which holds nothing, is written
 abbrev pub WritesNothing : Type 0
 WritesNothing =
     (code : ℕ) (value : Value) (room : List ℕ) (place to : ℕ)

@@ -10,6 +10,7 @@ pub mod Readings
 pub mod Writing
 pub mod Sofar
 pub mod Typed
+pub mod Contents
 pub mod Parts
 pub mod Readback
 pub mod Lists
