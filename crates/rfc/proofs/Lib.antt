@@ -11,6 +11,7 @@ pub mod Writing
 pub mod Sofar
 pub mod Typed
 pub mod Contents
+pub mod Written
 pub mod Parts
 pub mod Readback
 pub mod Lists

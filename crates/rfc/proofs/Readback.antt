@@ -22,16 +22,16 @@ use Rattle.rfc.specs.Kinds.{kinds, kindOf, sizeOf, sizes}
 use Rattle.rfc.specs.Values.{Content, raw, natural, integer, truth, numbers, nothing, Value, widthOf, valueOf, exactly, multiple, Mode, plain, strict, rules, ruleFor, wrongLength, notText, unclear, read, valued, readOption}
 use Rattle.rfc.specs.Walk.{run, further, walk, option, roomFor, step}
 use Rattle.rfc.specs.Writing.{partsOf, encode, answerTo, roomAfter, close}
-use Rattle.rfc.specs.Typed.{digitsOf, bytesIn, bytesOf, partSize, encodeKind, oddPairs, writeKind, writeValue, Apart, Below, Seconds, Empty, Proper, bytes, address, addresses, pairs, byte, yesNo, u16, u16s, u32, i32, text, codes, nodeType, messageType, threeBytes, flag}
+use Rattle.rfc.specs.Typed.{digitsOf, bytesIn, bytesOf, partSize, encodeKind, oddPairs, writeValue, Apart, Below, Seconds, Proper, bytes, address, addresses, pairs, byte, yesNo, u16, u16s, u32, i32, text, codes, nodeType, messageType, threeBytes, flag}
 use Rattle.rfc.proofs.Numbers.{no-pad, no-end}
-use Rattle.rfc.proofs.Writing.{encode-none, some-value, no-value, given-left, given-to, given-fits}
+use Rattle.rfc.proofs.Writing.{some-value, given-left, given-fits}
 use Rattle.rfc.proofs.Parts.{walk-parts, walk-value}
 use Rattle.rfc.proofs.Values as of
 use Rattle.rfc.proofs.Elements.{listed-size}
 use Rattle.rfc.proofs.Readings.{length-by, flag-empty, read-given, strict-plain, value-given}
-use Rattle.rfc.proofs.Codes.{kind-below}
-use Rattle.rfc.proofs.Typed.{some-part, encode-kind, encode-flag, Passed, passed}
-use Rattle.rfc.proofs.Contents.{digits-whole, numbers-back, seconds-below, seconds-signed, empty-kind, empty-bytes, bytes-empty}
+use Rattle.rfc.proofs.Typed.{some-part, encode-kind, encode-flag}
+use Rattle.rfc.proofs.Contents.{digits-whole, numbers-back, seconds-below, seconds-signed}
+use Rattle.rfc.proofs.Written.{put, Written, below-16}
 use Rattle.rfc.proofs.Walk.{further-none, further-other, answered, step-walks}
 
 -- some bytes are those of a value: strict reading takes them, and reads it
@@ -163,94 +163,54 @@ apart-none code [] u = further-none code
 apart-none code (b ∷ rest) n = further-other code b rest n
 
 -- a typed write that is given
-module _ (code : ℕ) (x : Value) (room : List ℕ) (place to : ℕ) (proper : Proper (x .kind) (x .content))
-    (written : answerTo (writeValue code x room place) room place ≡ given to) where
-  abbrev put : List ℕ
-  put = encodeKind (x .kind) code (bytesOf x)
+module _ {code : ℕ} {x : Value} {room : List ℕ} {place to : ℕ} (w : Written code x room place to)
+    (proper : Proper (x .kind) (x .content)) where
+  abbrev here : List ℕ
+  here = put code x
 
   abbrev after : List ℕ
   after = roomAfter (writeValue code x room place) room place
 
-  checks : Passed (x .kind) code (bytesOf x) room
-  unfolding writeValue
-  checks = passed (x .kind) code (bytesOf x) room place to written
-
-  is-kind : x .kind < 16
-  is-kind = subst (λ (k : ℕ). k < 16) (checks .is) (kind-below code)
-
-  left : after ≡ over room place put
-  unfolding writeValue writeKind
-  left = given-left (writeValue code x room place) room place to written
-
-  ends : to ≡ place + length put
-  unfolding writeValue writeKind
-  ends = given-to (writeValue code x room place) room place to written
-
-  inside : place + length put ≤ length room
-  unfolding writeValue writeKind
-  inside = given-fits (writeValue code x room place) room place to written
-
   -- an area that has these bytes at the place, and behind them no further part of the code
-  reads-in : (mode : Mode) (area tail : List ℕ) (join : ℕ) → length area ≡ length room → drop place area ≡ put ++ tail
+  reads-in : (mode : Mode) (area tail : List ℕ) (join : ℕ) → length area ≡ length room → drop place area ≡ here ++ tail
       → further code tail ≡ run 0 [] → place < to → mostValue ≤ join → readOption mode (step area place join) ≡ given (valued code x to)
   reads-in mode area tail join long from other some joins =
-      let c : Passed (x .kind) code (bytesOf x) room = checks in
       let v : List ℕ = bytesOf x in
-      let right = reads (x .kind) (x .content) proper (c .even) .right in
-      let w = walk-kind (x .kind) code v tail is-kind right (c .some) other place (omega (arith, ends)) in
+      let right = reads (x .kind) (x .content) proper (w .even) .right in
+      let found = walk-kind (x .kind) code v tail (below-16 w) right (w .some) other place (omega (arith, w .ends)) in
       ap (readOption mode)
-      (step-walks area place join (omega (arith, c .short)) (omega (arith, inside))
+      (step-walks area place join (omega (arith, w .short)) (omega (arith, w .inside))
       ∙ ap (λ (l : List ℕ). roomFor join (walk place l)) from
-      ∙ ap (roomFor join) (w .1)
-      ∙ answered join code v (w .0) (place + length put) (omega (arith, c .most)))
-      ∙ value-given mode code v (w .0) (place + length put) x
-      (value-back mode code x proper (c .some) (c .is) (omega (arith, c .most)) (c .even) (c .utf))
-      ∙ ap (λ (k : ℕ). given (valued code x k)) (sym ends)
+      ∙ ap (roomFor join) (found .1)
+      ∙ answered join code v (found .0) (place + length here) (omega (arith, w .most)))
+      ∙ value-given mode code v (found .0) (place + length here) x
+      (value-back mode code x proper (w .some) (w .is) (omega (arith, w .most)) (w .even) (w .utf))
+      ∙ ap (λ (k : ℕ). given (valued code x k)) (sym (w .ends))
 
   -- the room that it leaves, with no further part of the code behind
   pub reads-back : (mode : Mode) (join : ℕ) → place < to → Apart code (drop to room) → mostValue ≤ join
       → readOption mode (step after place join) ≡ given (valued code x to)
   reads-back mode join some apart joins =
-      let tail : List ℕ = drop (place + length put) room in
-      ap (λ (area : List ℕ). readOption mode (step area place join)) left
-      ∙ reads-in mode (over room place put) tail join (length-over room place put inside) (from-over room place put inside)
-      (apart-none code tail (subst (λ (k : ℕ). Apart code (drop k room)) ends apart)) some joins
+      let tail : List ℕ = drop (place + length here) room in
+      ap (λ (area : List ℕ). readOption mode (step area place join)) (w .left)
+      ∙ reads-in mode (over room place here) tail join (length-over room place here (w .inside)) (from-over room place here (w .inside))
+      (apart-none code tail (subst (λ (k : ℕ). Apart code (drop k room)) (w .ends) apart)) some joins
 
   -- and that room, closed
   pub closed-back : (mode : Mode) (join closed : ℕ) → place < to → mostValue ≤ join → answerTo (close after to) after to ≡ given closed
       → readOption mode (step (roomAfter (close after to) after to) place join) ≡ given (valued code x to)
   unfolding close
   closed-back mode join closed some joins e =
-      let more : List ℕ = put ++ endCode ∷ [] in
+      let more : List ℕ = here ++ endCode ∷ [] in
       let tail : List ℕ = drop (place + length more) room in
-      let l : length more ≡ length put + 1 = length-append put (endCode ∷ []) in
-      let len : length after ≡ length room = ap length left ∙ length-over room place put inside in
-      let fit : place + length more ≤ length room = omega (arith, given-fits (close after to) after to closed e, ends) in
+      let l : length more ≡ length here + 1 = length-append here (endCode ∷ []) in
+      let len : length after ≡ length room = ap length (w .left) ∙ length-over room place here (w .inside) in
+      let fit : place + length more ≤ length room = omega (arith, given-fits (close after to) after to closed e, w .ends) in
       let same : roomAfter (close after to) after to ≡ over room place more =
       given-left (close after to) after to closed e
-      ∙ (λ i. over (left i) (ends i) (endCode ∷ []))
-      ∙ over-over room place put (endCode ∷ []) inside in
+      ∙ (λ i. over (w .left i) (w .ends i) (endCode ∷ []))
+      ∙ over-over room place here (endCode ∷ []) (w .inside) in
       ap (λ (area : List ℕ). readOption mode (step area place join)) same
       ∙ reads-in mode (over room place more) (endCode ∷ tail) join (length-over room place more fit)
-      (from-over room place more fit ∙ append-snoc put endCode tail)
-      (further-other code endCode tail (λ z. no-end code (checks .some) (sym z))) some joins
-
-  -- nothing is written exactly of an empty value
-  pub nothing-put : to ≡ place → Empty (x .content)
-  nothing-put e =
-      let flag-put : x .kind ≡ 15 → put ≡ code ∷ 0 ∷ [] =
-      λ is. ap (λ (k : ℕ). encodeKind k code (bytesOf x)) is ∙ encode-flag code (bytesOf x) in
-      let other : x .kind ≡ 15 → ⊥ = λ is. omega (arith, ends, ap length (flag-put is)) in
-      let low : x .kind < 15 = omega (arith, is-kind, other) in
-      let none : length (encode (partSize (x .kind)) code (bytesOf x)) ≡ 0 =
-      omega (arith, ends, ap length (encode-kind (x .kind) code (bytesOf x) other)) in
-      bytes-empty (x .kind) (x .content) proper low (no-value (partSize (x .kind)) (some-part (x .kind) low) code (bytesOf x) none)
-
-  pub put-nothing : Empty (x .content) → to ≡ place
-  put-nothing e =
-      let low : x .kind < 15 = empty-kind proper e in
-      let none : put ≡ [] =
-      encode-kind (x .kind) code (bytesOf x) (λ is. omega arith)
-      ∙ ap (encode (partSize (x .kind)) code) (empty-bytes (x .kind) (x .content) e)
-      ∙ encode-none _ (some-part (x .kind) low) code in
-      omega (arith, ends, ap length none)
+      (from-over room place more fit ∙ append-snoc here endCode tail)
+      (further-other code endCode tail (λ z. no-end code (w .some) (sym z))) some joins

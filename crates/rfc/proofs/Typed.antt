@@ -6,22 +6,22 @@ use mathlib.Core.Bool.{true, false, not}
 use native.Mathlib.Omega.{arith}
 use native.Mathlib.Nat.{mul-suc}
 use mathlib.Core.List.{List, [], _∷_, _++_, flatten, append-nil}
-use borrow.Author.Tests.{ltb-true, leb-true, eqb-true, not-false, eq-eqb, ne-eqb}
-use lib.Dec.{lit<, eqb, leb, ltb}
+use borrow.Author.Tests.{ltb-true, leb-true, eqb-true, eq-eqb, ne-eqb}
+use lib.Dec.{eqb, leb, ltb}
 use lib.ListN.{length, take, drop, getD, length-append}
 use lib.Seq.{drop-cons, take-nil, drop-nil, take-append-add, drop-append-add}
 use Rattle.facts.specs.BigEndian.{digits}
 use Rattle.facts.proofs.BigEndian.{length-digits}
 use Rattle.facts.proofs.Table.{each}
 use Rattle.facts.specs.Over.{over}
-use Rattle.rfc.specs.Numbers.{refused, given, mostBytes, mostValue, mostPart, padCode, endCode, noCode, checked}
+use Rattle.rfc.specs.Numbers.{refused, given, mostBytes, mostValue, mostPart, padCode, endCode, checked}
 use Rattle.rfc.specs.Kinds.{kindOf, sizes, sizeOf}
 use Rattle.rfc.specs.Values.{notText}
 use Rattle.rfc.specs.Writing.{encode, Write, writeChecks, answerTo, roomAfter, writeBytes}
 use Rattle.rfc.specs.Typed.{digitsOf, partSize, encodeKind, otherKind, oddPairs, codeChecks, valueChecks, writeKind}
-use Rattle.rfc.proofs.Numbers.{Refuses, here, later, refuses-front, refuses-behind, Clear, done, next, passes, clear-both, given-no, long, not-long, not-too-long, past, not-past, place-within, pad-code, end-code, a-code, much, not-much, not-too-much, full, not-full}
+use Rattle.rfc.proofs.Numbers.{Refuses, here, later, refuses-front, refuses-behind, Clear, done, next, clear-both, long, not-long, not-too-long, past, not-past, place-within, pad-code, end-code, a-code, much, not-much, full, not-full}
 use Rattle.rfc.proofs.Codes.{size-some}
-use Rattle.rfc.proofs.Values.{Scalar, address, byte, yesNo, u16, u32, i32, nodeType, messageType, threeBytes}
+use Rattle.rfc.proofs.Values.{Scalar, scalar-kind}
 use Rattle.rfc.proofs.Writing.{encode-once, write-refused, write-given, given-left}
 
 -- the bytes of numbers, each of so many
@@ -107,18 +107,6 @@ pub record Single (kind size : ℕ) : Type 0 where
   pub in-part : (size ≤ partSize kind) × (size ≤ mostPart)
   pub other : (kind ≡ 3 → ⊥) × (kind ≡ 10 → ⊥) × (kind ≡ 15 → ⊥)
 
-scalar-kind : {kind size : ℕ} → Scalar kind size → (sizeOf kind ≡ size) × (kind < 15) × (kind ≡ 3 → ⊥) × (kind ≡ 10 → ⊥)
-unfolding sizeOf sizes
-scalar-kind address = (refl, lit< tt, λ e. omega arith, λ e. omega arith)
-scalar-kind byte = (refl, lit< tt, λ e. omega arith, λ e. omega arith)
-scalar-kind yesNo = (refl, lit< tt, λ e. omega arith, λ e. omega arith)
-scalar-kind u16 = (refl, lit< tt, λ e. omega arith, λ e. omega arith)
-scalar-kind u32 = (refl, lit< tt, λ e. omega arith, λ e. omega arith)
-scalar-kind i32 = (refl, lit< tt, λ e. omega arith, λ e. omega arith)
-scalar-kind nodeType = (refl, lit< tt, λ e. omega arith, λ e. omega arith)
-scalar-kind messageType = (refl, lit< tt, λ e. omega arith, λ e. omega arith)
-scalar-kind threeBytes = (refl, lit< tt, λ e. omega arith, λ e. omega arith)
-
 pub single : {kind size : ℕ} → Scalar kind size → Single kind size
 single {kind} {size} s =
     let k = scalar-kind s in
@@ -145,11 +133,6 @@ module _ (kind code : ℕ) (v : List ℕ) where
 pub encode-flag : (code : ℕ) (v : List ℕ) → encodeKind 15 code v ≡ code ∷ 0 ∷ []
 unfolding encodeKind
 encode-flag code v = refl
-
--- 9
-same-kind : (kind code : ℕ) → otherKind kind code ≡ false → kindOf code ≡ kind
-unfolding otherKind
-same-kind kind code e = eqb-true (kindOf code) kind (not-false _ e)
 
 -- 13
 pub no-pairs : (kind : ℕ) (v : List ℕ) → (kind ≡ 3 → ⊥) → oddPairs kind v ≡ false
@@ -259,28 +242,3 @@ module _ (kind code : ℕ) (v room : List ℕ) (place : ℕ) where
                 → (answerTo (writeBytes code v room place) room place ≡ answerTo write room place)
                 × (roomAfter (writeBytes code v room place) room place ≡ roomAfter write room place)
             go (next w (next x (next y (next z done)))) = (rw (w, x, y, z, b, c, e), rw (w, x, y, z, b, c, e))
-
--- what a typed write that is given has passed
-pub record Passed (kind code : ℕ) (v room : List ℕ) : Type 0 where
-  pub short : length room ≤ mostBytes
-  pub some : noCode code ≡ false
-  pub is : kindOf code ≡ kind
-  pub even : oddPairs kind v ≡ false
-  pub utf : notText kind v ≡ false
-  pub most : length v ≤ mostValue
-
-pub passed : (kind code : ℕ) (v room : List ℕ) (place to : ℕ) → answerTo (writeKind kind code v room place) room place ≡ given to
-    → Passed kind code v room
-unfolding answerTo writeChecks writeKind codeChecks valueChecks
-passed kind code v room place to e = go (passes _ _ (given to) (given-no to) e .0)
-  where
-    go : Clear (writeChecks (writeKind kind code v room place) room place) → Passed kind code v room
-    go (next long (next past (next none (next other (next odd (next no-text (next much last))))))) =
-        record {
-          short = not-too-long room long;
-          some = none;
-          is = same-kind kind code other;
-          even = odd;
-          utf = no-text;
-          most = not-too-much v much;
-        }
