@@ -59,11 +59,11 @@ written code x room place to e = go (passes _ _ (given to) (given-no to) e .0)
           left = given-left (writeValue code x room place) room place to e;
         }
 
--- nothing is written exactly of an empty value
 module _ {code : ℕ} {x : Value} {room : List ℕ} {place to : ℕ} (w : Written code x room place to) where
   pub below-16 : x .kind < 16
   below-16 = subst (λ (k : ℕ). k < 16) (w .is) (kind-below code)
 
+  -- nothing is written exactly of an empty value
   pub nothing-put : Proper (x .kind) (x .content) → to ≡ place → Empty (x .content)
   nothing-put proper e =
       let flag-put : x .kind ≡ 15 → put code x ≡ code ∷ 0 ∷ [] =
