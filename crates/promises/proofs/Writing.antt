@@ -1,31 +1,24 @@
--- What a typed writer writes reads back, by the laws of `rfc`.
+-- Typed writers cut at whole elements, and what one writes reads back, by the laws of `rfc`.
 -- Assumes nothing.
-use mathlib.Core.Path.{_≡_, refl, sym, subst}
-use mathlib.Core.Logic.{_⊎_, inl, inr}
-use mathlib.Core.List.{[]}
-use Rattle.rfc.specs.Values.{Content, raw, numbers}
-use Rattle.rfc.proofs.Readback.{reads-back, closed-back, nothing-put, put-nothing}
-use Rattle.promises.specs.Writing.{TypedReadsBack, ClosedReadsBack, Empty, noBytes, noNumbers, WritesNothing}
+use Rattle.rfc.proofs.Typed.{whole-elements, parts-listed, parts-bytes}
+use Rattle.rfc.proofs.Written.{written, nothing-put, put-nothing}
+use Rattle.rfc.proofs.Readback.{reads-back, closed-back}
+use Rattle.promises.specs.Writing.{WholeElements, MostInAPart, TypedReadsBack, ClosedReadsBack, WritesNothing}
+
+pub whole-parts : WholeElements
+whole-parts kind h = whole-elements kind h
+
+pub most-in-a-part : MostInAPart
+most-in-a-part = (parts-listed .0, parts-listed .1, parts-listed .2, parts-bytes .1)
 
 pub typed-reads-back : TypedReadsBack
-typed-reads-back mode code value room place to join proper written some apart joins =
-    reads-back code value room place to proper written mode join some apart joins
+typed-reads-back mode code value room place to join proper answered some apart joins =
+    reads-back (written code value room place to answered) proper mode join some apart joins
 
 pub closed-reads-back : ClosedReadsBack
-closed-reads-back mode code value room place to closed join proper written some joins ended =
-    closed-back code value room place to proper written mode join closed some joins ended
-
--- no element, in the words of the law
-is-empty : (content : Content) → (content ≡ raw []) ⊎ (content ≡ numbers []) → Empty content
-is-empty content (inl e) = subst Empty (sym e) noBytes
-is-empty content (inr e) = subst Empty (sym e) noNumbers
-
-empty-is : (content : Content) → Empty content → (content ≡ raw []) ⊎ (content ≡ numbers [])
-empty-is content noBytes = inl refl
-empty-is content noNumbers = inr refl
+closed-reads-back mode code value room place to closed join proper answered some joins ended =
+    closed-back (written code value room place to answered) proper mode join closed some joins ended
 
 pub writes-nothing : WritesNothing
-writes-nothing code value room place to proper written = (
-  λ e. is-empty (value .content) (nothing-put code value room place to proper written e),
-  λ e. put-nothing code value room place to proper written (empty-is (value .content) e),
-)
+writes-nothing code value room place to proper answered =
+    let w = written code value room place to answered in (nothing-put w proper, put-nothing w proper)

@@ -10,6 +10,8 @@ pub mod Readings
 pub mod Writing
 pub mod Sofar
 pub mod Typed
+pub mod Contents
+pub mod Written
 pub mod Parts
 pub mod Readback
 pub mod Lists

@@ -1,7 +1,7 @@
 -- The laws of `specs/Lists.antt`: a list of options is written as its bytes, and its bytes are walked as the list.
 -- Assumes nothing.
 use mathlib.Core.Path.{_≡_, refl, sym, ap, _∙_}
-use Prim.Native.Nat.{ℕ, suc, zero, _+_, _-_, _≤_, _<_}
+use Prim.Native.Nat.{ℕ, suc, zero, _+_, _≤_, _<_}
 use native.Mathlib.Omega.{arith}
 use native.Mathlib.Nat.{not-suc-le-zero, le-refl}
 use mathlib.Core.List.{List, [], _∷_, _++_, append-assoc, append-nil}
@@ -14,13 +14,20 @@ use Rattle.facts.proofs.Over.{over-over, length-over}
 use Rattle.rfc.specs.Numbers.{Answer, given, andThen, mostBytes, mostValue, mostPart, padCode, endCode}
 use Rattle.rfc.specs.Walk.{Found, stop, option, end, run, further, walk, roomFor, step}
 use Rattle.rfc.specs.Writing.{encode, Write, answerTo, roomAfter, writeBytes, close}
-use Rattle.rfc.specs.Lists.{Opt, Differs, Valid, encodeAll, Made, does, finished, writeAll, Listing, onward, listIn, listing}
+use Rattle.rfc.specs.Lists.{Opt, Good, Differs, Valid, encodeAll, Made, does, finished, writeAll, Listing, onward, listIn, listing}
 use Rattle.rfc.proofs.Walk.{further-other, walk-end, stop-answered, answered, step-walks}
 use Rattle.rfc.proofs.Writing.{encode-more, close-given, close-left, bytes-given, bytes-left}
-use Rattle.rfc.proofs.Parts.{walk-encode}
+use Rattle.rfc.proofs.Parts.{walk-value}
 
 some-part : 0 < mostPart
 some-part = lit< tt
+
+-- the code of a good option is neither Pad nor End
+not-pad : {o : Opt} → Good o → o .code ≡ padCode → ⊥
+not-pad g z = omega (arith, g .low)
+
+not-end : {o : Opt} → Good o → o .code ≡ endCode → ⊥
+not-end g z = omega (arith, g .high)
 
 -- Writing. A write that is given is followed by the next, in the room that it leaves
 goes-on : (w : Write) (room room′ : List ℕ) (place to : ℕ) (more : List ℕ → ℕ → Answer Made)
@@ -42,12 +49,10 @@ writes-all (o ∷ os) room place v h k =
     let l : length (here ++ there) ≡ length here + length there = length-append here there in
     let p : place ≤ length room = omega arith in
     let f : place + length here ≤ length room = omega arith in
-    let zero-not : o .code ≡ padCode → ⊥ = λ z. omega (arith, v .0 .low) in
-    let end-not : o .code ≡ endCode → ⊥ = λ z. omega (arith, v .0 .high) in
     let e : place + length here + length there ≡ place + length (here ++ there) = omega arith in
     goes-on (writeBytes (o .code) (o .value) room place) room _ place _ (writeAll os)
-    (bytes-given (o .code) (o .value) room place h p zero-not end-not (v .0 .most) f)
-    (bytes-left (o .code) (o .value) room place h p zero-not end-not (v .0 .most) f)
+    (bytes-given (o .code) (o .value) room place h p (not-pad (v .0)) (not-end (v .0)) (v .0 .most) f)
+    (bytes-left (o .code) (o .value) room place h p (not-pad (v .0)) (not-end (v .0)) (v .0 .most) f)
     ∙ writes-all os (over room place here) (place + length here) (v .2)
     (omega (arith, length-over room place here f))
     (omega (arith, length-over room place here f))
@@ -96,7 +101,8 @@ module _ (area rest : List ℕ) (room : ℕ) (short : length area ≤ mostBytes)
       let other = next-other code os rest (v .0 .high) (v .1) (v .2) in
       let w : step area (length pre) room ≡ given (option code value n to) =
       step-behind area pre (here ++ there) room a short
-      ∙ ap (roomFor room) (walk-encode code there other (v .0 .low) (v .0 .high) mostPart some-part (length pre) value (v .0 .some))
+      ∙ ap (roomFor room)
+      (walk-value code there other (not-pad (v .0)) (not-end (v .0)) mostPart some-part (length pre) value (v .0 .some))
       ∙ answered room code value n to (omega (arith, v .0 .most)) in
       let p : to ≡ length (pre ++ here) = sym (length-append pre here) in
       let q : length (pre ++ here) + length (encodeAll os) ≡ length pre + length (here ++ encodeAll os) =

@@ -1,6 +1,6 @@
 -- The laws of `specs/Numbers.antt`: what each test says, and which check decides.
 -- Assumes nothing.
-use mathlib.Core.Path.{_≡_, refl, sym, subst}
+use mathlib.Core.Path.{_≡_, refl, sym, _∙_, subst}
 use Prim.Native.Nat.{ℕ, _+_, _≤_, _<_}
 use mathlib.Core.Bool.{Bool, true, false}
 use mathlib.Core.List.{List, [], _∷_, _++_}
@@ -129,6 +129,13 @@ pub a-code : (code : ℕ) → (code ≡ padCode → ⊥) → (code ≡ endCode �
 unfolding noCode
 a-code code n m = rw (ne-eqb code padCode n, ne-eqb code endCode m)
 
+pub no-pad : (code : ℕ) → noCode code ≡ false → code ≡ padCode → ⊥
+no-pad code e z = let f : true ≡ false = sym (pad-code code z) ∙ e in let n : _≡_ {A = ℕ} 0 1 = cc in omega arith
+
+pub no-end : (code : ℕ) → noCode code ≡ false → code ≡ endCode → ⊥
+no-end code e z =
+    let f : true ≡ false = sym (end-code code (no-pad code e) z) ∙ e in let n : _≡_ {A = ℕ} 0 1 = cc in omega arith
+
 -- 7
 pub much : (value : List ℕ) → mostValue < length value → tooMuch value ≡ true
 unfolding tooMuch
@@ -137,6 +144,10 @@ much value h = lt-ltb mostValue (length value) h
 pub not-much : (value : List ℕ) → length value ≤ mostValue → tooMuch value ≡ false
 unfolding tooMuch
 not-much value h = le-ltb mostValue (length value) h
+
+pub not-too-much : (value : List ℕ) → tooMuch value ≡ false → length value ≤ mostValue
+unfolding tooMuch
+not-too-much value e = ltb-false mostValue (length value) e
 
 -- 8
 pub full : (room : List ℕ) (place : ℕ) (bytes : List ℕ) → length room < place + length bytes → noRoom room place bytes ≡ true

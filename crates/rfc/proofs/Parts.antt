@@ -63,9 +63,3 @@ module _ (code : ℕ) (tail : List ℕ) (other : further code tail ≡ run 0 [])
         ap (λ (ps : List (List ℕ)). walk at (partsOf code ps ++ tail)) e
         ∙ walk-parts at (take size v) rest
         ∙ (λ i. option code (whole i) (length rest + 1) (at + length (partsOf code (sym e i))))
-
-  -- of a code from 1 to 254
-  pub walk-encode : 1 ≤ code → code ≤ 254 → (size : ℕ) → 0 < size → (at : ℕ) (v : List ℕ) → 1 ≤ length v
-      → walk at (encode size code v ++ tail)
-      ≡ option code v (length (pieces size (drop size v)) + 1) (at + length (encode size code v))
-  walk-encode low high = walk-value (λ z. omega arith) (λ z. omega arith)

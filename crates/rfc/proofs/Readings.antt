@@ -1,21 +1,21 @@
 -- The laws of `specs/Values.antt`, of readings: the tests of 10, 11 and 14, which check decides, and whole options.
 -- Assumes nothing.
 use mathlib.Core.Path.{_≡_, refl, sym, ap, _∙_}
-use Prim.Native.Nat.{ℕ, _≤_, _<_}
+use Prim.Native.Nat.{ℕ, suc, _≤_, _<_}
 use mathlib.Core.Bool.{Bool, true, false, cond, not}
-use mathlib.Core.List.{List}
+use mathlib.Core.List.{List, [], _∷_}
 use native.Mathlib.Omega.{arith}
 use native.Mathlib.Decide.{decLe}
-use borrow.Author.Tests.{le-ltb, ltb-true, eqb-true, not-false, eq-eqb, ne-eqb}
+use borrow.Author.Tests.{le-ltb, eqb-true, not-false, eq-eqb, ne-eqb}
 use lib.Dec.{ltb}
 use lib.ListN.{length, getD, List·getD-eq-default}
 use Rattle.facts.specs.Ranges.{lookup, within}
-use Rattle.facts.proofs.Table.{each}
 use Rattle.rfc.specs.Numbers.{Answer, given, refused, needs, mostBytes, andThen, noCode}
 use Rattle.rfc.specs.Walk.{Found, Stop, stop, option}
 use Rattle.rfc.specs.Kinds.{kindOf, sizeOf, sizes}
 use Rattle.rfc.specs.Text.{utf8}
 use Rattle.rfc.specs.Values.{Value, valueOf, Rule, exactly, atLeast, multiple, breaks, Mode, plain, strict, rules, ruleFor, wrongLength, notText, unclear, readChecks, read, stopped, valued, readFound, readOption}
+use Rattle.rfc.proofs.Codes.{size-some}
 use Rattle.rfc.proofs.Numbers.{here, later, refuses, Clear, done, next, clears, passes, long, not-long, given-no, refused-stands, needs-stands}
 
 -- 10: the length by its rule
@@ -26,7 +26,7 @@ length-by mode kind v rule e = ap (λ (r : Rule). breaks r (sizeOf kind) (length
 
 -- where a length has to be a multiple of a size, the size is not 0: only the flag's is
 pub multiple-of-some : (mode : Mode) (kind : ℕ) → kind < 16 → ruleFor mode kind ≡ multiple → 0 < sizeOf kind
-unfolding sizeOf sizes ruleFor rules lookup within
+unfolding ruleFor rules lookup within
 multiple-of-some mode kind h e = go (decLe 15 kind)
   where
     flag : (m : Mode) → ruleFor m 15 ≡ multiple → ⊥
@@ -35,7 +35,7 @@ multiple-of-some mode kind h e = go (decLe 15 kind)
 
     go : Dec (15 ≤ kind) → 0 < sizeOf kind
     go (yes p) = let k : 15 ≡ kind = omega arith in absurd (flag mode (ap (ruleFor mode) k ∙ e))
-    go (no p) = ltb-true 0 (sizeOf kind) (each (ltb 0) sizeOf 15 kind refl (omega arith))
+    go (no p) = size-some kind (omega arith)
 
 -- a length that strict reading accepts, plain reading accepts
 strict-length : (kind : ℕ) (v : List ℕ) → wrongLength strict kind v ≡ false → wrongLength plain kind v ≡ false
@@ -57,6 +57,12 @@ strict-length kind v e = go (within 1 1 kind) (within 4 6 kind) (within 8 9 kind
 pub any-length : (mode : Mode) (kind : ℕ) (v : List ℕ) → wrongLength mode kind v ≡ false → wrongLength plain kind v ≡ false
 any-length plain kind v e = e
 any-length strict kind v e = strict-length kind v e
+
+-- a flag whose length strict reading accepts has no bytes
+pub flag-empty : (v : List ℕ) → wrongLength strict 15 v ≡ false → v ≡ []
+unfolding wrongLength ruleFor rules lookup within sizeOf sizes
+flag-empty [] e = refl
+flag-empty (b ∷ v) e = let z : suc (length v) ≡ 0 = eqb-true (suc (length v)) 0 (not-false _ e) in absurd (omega arith)
 
 -- 11
 pub no-text : (kind : ℕ) (v : List ℕ) → (kind ≡ 10 → ⊥) → notText kind v ≡ false

@@ -5,24 +5,26 @@ use Prim.Native.Nat.{ℕ, zero, suc, _+_, _*_, _/_, _%_, _^_, _≤_, _<_}
 use mathlib.Core.Bool.{true, false, not}
 use native.Mathlib.Omega.{arith}
 use native.Mathlib.Nat.{mul-suc}
-use mathlib.Core.List.{List, [], _∷_, _++_, map, flatten, append-nil}
-use borrow.Author.Tests.{eq-eqb, ne-eqb}
-use lib.Dec.{lit<, eqb}
-use lib.ListN.{length, take, drop, getD, length-append, drop-of-length-le}
-use lib.Seq.{drop-cons, take-nil, drop-nil, take-all, take-append-add, drop-append-add}
+use mathlib.Core.List.{List, [], _∷_, _++_, flatten, append-nil}
+use borrow.Author.Tests.{ltb-true, leb-true, eqb-true, eq-eqb, ne-eqb}
+use lib.Dec.{eqb, leb, ltb}
+use lib.ListN.{length, take, drop, getD, length-append}
+use lib.Seq.{drop-cons, take-nil, drop-nil, take-append-add, drop-append-add}
 use Rattle.facts.specs.BigEndian.{digits}
 use Rattle.facts.proofs.BigEndian.{Bytes, length-digits}
+use Rattle.facts.proofs.Table.{each}
 use Rattle.facts.specs.Over.{over}
 use Rattle.facts.specs.Ranges.{lookup, within}
 use Rattle.rfc.specs.Numbers.{refused, given, mostBytes, mostValue, mostPart, padCode, endCode, checked}
 use Rattle.rfc.specs.Kinds.{kindOf, sizes, sizeOf}
 use Rattle.rfc.specs.Values.{Content, numbers, widthOf, notText}
-use Rattle.rfc.specs.Writing.{encode, Write, writeChecks, answerTo, roomLeft, roomAfter, writeSlice, writeBytes}
+use Rattle.rfc.specs.Writing.{encode, Write, writeChecks, answerTo, roomAfter, writeSlice, writeBytes}
 use Rattle.rfc.specs.Typed.{digitsOf, bytesIn, partSize, encodeKind, otherKind, oddPairs, codeChecks, valueChecks}
 use Rattle.rfc.specs.Typed.{writeKind, writeValue}
 use Rattle.rfc.proofs.Numbers.{Refuses, here, later, refuses-front, refuses-behind, Clear, done, next, clear-both, long, not-long, not-too-long, past, not-past, place-within, pad-code, end-code, a-code, much, not-much, full, not-full}
-use Rattle.rfc.proofs.Values.{value, Scalar, address, byte, yesNo, u16, u32, i32, nodeType, messageType, threeBytes}
-use Rattle.rfc.proofs.Writing.{encode-none, encode-more, write-refused, write-given, given-left}
+use Rattle.rfc.proofs.Codes.{size-some}
+use Rattle.rfc.proofs.Values.{value, Scalar, scalar-kind}
+use Rattle.rfc.proofs.Writing.{encode-once, write-refused, write-given, given-left}
 
 -- the bytes of numbers, each of so many
 module _ (width : ℕ) where
@@ -72,7 +74,25 @@ module _ (width : ℕ) where
       ∙ ap (λ (r : List ℕ). digitsOf width (take 1 r)) (drop-cons l i 0 h)
       ∙ append-nil (digits width (getD l i 0))
 
--- the most bytes of a part: 63 addresses, 31 pairs, 127 u16s
+-- the most bytes of a part: whole elements, no more than 255 bytes, and one element more would pass 255
+pub whole-elements : (kind : ℕ) → kind < 15
+    → (partSize kind % sizeOf kind ≡ 0) × (partSize kind ≤ mostPart) × (mostPart < partSize kind + sizeOf kind)
+unfolding partSize sizeOf sizes
+whole-elements kind h = (
+  eqb-true _ 0 (each (λ n. eqb n 0) (λ k. partSize k % sizeOf k) 15 kind refl h),
+  leb-true _ mostPart (each (λ n. leb n mostPart) partSize 15 kind refl h),
+  ltb-true mostPart _ (each (ltb mostPart) (λ k. partSize k + sizeOf k) 15 kind refl h),
+)
+
+-- a part holds an element, so it has some bytes
+part-holds : (kind : ℕ) → kind < 15 → sizeOf kind ≤ partSize kind
+unfolding partSize sizeOf sizes
+part-holds kind h = leb-true _ _ (each (λ k. leb (sizeOf k) (partSize k)) (λ k. k) 15 kind refl h)
+
+pub some-part : (kind : ℕ) → kind < 15 → 0 < partSize kind
+some-part kind h = omega (arith, size-some kind h, part-holds kind h)
+
+-- 63 addresses, 31 pairs, 127 u16s
 pub parts-listed : (partSize 2 ≡ 4 * 63) × (partSize 3 ≡ 4 * (2 * 31)) × (partSize 7 ≡ 2 * 127)
 unfolding partSize sizeOf sizes
 parts-listed = (refl, refl, refl)
@@ -90,26 +110,15 @@ pub record Single (kind size : ℕ) : Type 0 where
   pub other : (kind ≡ 3 → ⊥) × (kind ≡ 10 → ⊥) × (kind ≡ 15 → ⊥)
 
 pub single : {kind size : ℕ} → Scalar kind size → Single kind size
-unfolding partSize sizeOf sizes
-single address = record { size-is = refl; some = lit< tt; in-part = (omega arith, omega arith); other = (λ e. omega arith, λ e. omega arith, λ e. omega arith) }
-single byte = record { size-is = refl; some = lit< tt; in-part = (omega arith, omega arith); other = (λ e. omega arith, λ e. omega arith, λ e. omega arith) }
-single yesNo = record { size-is = refl; some = lit< tt; in-part = (omega arith, omega arith); other = (λ e. omega arith, λ e. omega arith, λ e. omega arith) }
-single u16 = record { size-is = refl; some = lit< tt; in-part = (omega arith, omega arith); other = (λ e. omega arith, λ e. omega arith, λ e. omega arith) }
-single u32 = record { size-is = refl; some = lit< tt; in-part = (omega arith, omega arith); other = (λ e. omega arith, λ e. omega arith, λ e. omega arith) }
-single i32 = record { size-is = refl; some = lit< tt; in-part = (omega arith, omega arith); other = (λ e. omega arith, λ e. omega arith, λ e. omega arith) }
-single nodeType = record { size-is = refl; some = lit< tt; in-part = (omega arith, omega arith); other = (λ e. omega arith, λ e. omega arith, λ e. omega arith) }
-single messageType = record { size-is = refl; some = lit< tt; in-part = (omega arith, omega arith); other = (λ e. omega arith, λ e. omega arith, λ e. omega arith) }
-single threeBytes = record { size-is = refl; some = lit< tt; in-part = (omega arith, omega arith); other = (λ e. omega arith, λ e. omega arith, λ e. omega arith) }
-
--- a value that fits in one part is one, whatever the most bytes of a part are
-encode-once : (size code : ℕ) (v : List ℕ) → 0 < length v → length v ≤ size → encode size code v ≡ code ∷ length v ∷ v
-encode-once size code v h g =
-    let some : 0 < size = omega arith in
-    let t : take size v ≡ v = take-all size v g in
-    encode-more size some code v h
-    ∙ (λ i. code ∷ length (t i) ∷ (t i ++ encode size code (drop-of-length-le v g i)))
-    ∙ ap (λ (r : List ℕ). code ∷ length v ∷ (v ++ r)) (encode-none size some code)
-    ∙ ap (λ (r : List ℕ). code ∷ length v ∷ r) (append-nil v)
+single {kind} {size} s =
+    let k = scalar-kind s in
+    let fits : sizeOf kind ≤ partSize kind = part-holds kind (k .1) in
+    record {
+      size-is = k .0;
+      some = omega (arith, k .0, size-some kind (k .1));
+      in-part = (omega (arith, k .0, fits), omega (arith, k .0, fits, whole-elements kind (k .1) .1));
+      other = (k .2, k .3, λ e. omega (arith, k .1));
+    }
 
 -- the parts of bytes of a kind
 module _ (kind code : ℕ) (v : List ℕ) where

@@ -1,12 +1,12 @@
 -- The laws of `specs/Values.antt`, of values: what each kind holds, and the node types.
 -- Assumes nothing.
 use mathlib.Core.Path.{_≡_, refl}
-use Prim.Native.Nat.{ℕ, _≤_}
+use Prim.Native.Nat.{ℕ, _≤_, _<_}
 use mathlib.Core.Bool.{false}
 use mathlib.Core.List.{List}
 use native.Mathlib.Omega.{arith}
 use borrow.Author.Tests.{ltb-false, eqb-true, not-false}
-use lib.Dec.{eqb}
+use lib.Dec.{lit<, eqb}
 use lib.ListN.{length, take}
 use Rattle.facts.specs.BigEndian.{number, signed}
 use Rattle.facts.specs.Ranges.{lookup, within}
@@ -29,6 +29,19 @@ pub data Scalar : ℕ → ℕ → Type 0 where
   nodeType : Scalar 12 1
   messageType : Scalar 13 1
   threeBytes : Scalar 14 3
+
+-- the kind of one element is no pairs, no text and no flag
+pub scalar-kind : {kind size : ℕ} → Scalar kind size → (sizeOf kind ≡ size) × (kind < 15) × (kind ≡ 3 → ⊥) × (kind ≡ 10 → ⊥)
+unfolding sizeOf sizes
+scalar-kind address = (refl, lit< tt, λ e. omega arith, λ e. omega arith)
+scalar-kind byte = (refl, lit< tt, λ e. omega arith, λ e. omega arith)
+scalar-kind yesNo = (refl, lit< tt, λ e. omega arith, λ e. omega arith)
+scalar-kind u16 = (refl, lit< tt, λ e. omega arith, λ e. omega arith)
+scalar-kind u32 = (refl, lit< tt, λ e. omega arith, λ e. omega arith)
+scalar-kind i32 = (refl, lit< tt, λ e. omega arith, λ e. omega arith)
+scalar-kind nodeType = (refl, lit< tt, λ e. omega arith, λ e. omega arith)
+scalar-kind messageType = (refl, lit< tt, λ e. omega arith, λ e. omega arith)
+scalar-kind threeBytes = (refl, lit< tt, λ e. omega arith, λ e. omega arith)
 
 -- what each holds
 abbrev pub holds : {kind size : ℕ} → Scalar kind size → List ℕ → Content

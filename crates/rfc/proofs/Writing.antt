@@ -1,10 +1,11 @@
 -- The laws of `specs/Writing.antt`: the bytes of a value, and each writer by its checks.
 -- Assumes nothing.
-use mathlib.Core.Path.{_≡_, refl, ap}
+use mathlib.Core.Path.{_≡_, refl, ap, _∙_}
 use Prim.Native.Nat.{ℕ, _+_, _-_, _*_, _/_, _≤_, _<_}
 use native.Mathlib.Omega.{arith}
-use mathlib.Core.List.{List, [], _∷_, _++_, flatten}
-use lib.ListN.{length, take, drop, length-append}
+use mathlib.Core.List.{List, [], _∷_, _++_, flatten, append-nil}
+use lib.ListN.{length, take, drop, length-append, drop-of-length-le}
+use lib.Seq.{take-all}
 use Rattle.facts.specs.Over.{over}
 use Rattle.facts.specs.Pieces.{pieces}
 use Rattle.facts.proofs.Pieces.{pieces-none, pieces-more, flatten-pieces, count-pieces}
@@ -33,6 +34,25 @@ module _ (size : ℕ) (some : 0 < size) (code : ℕ) where
   unfolding encode
   length-encode v =
       omega (arith, length-parts code (pieces size v), count-pieces size some v, ap length (flatten-pieces size some v))
+
+  -- where something is written, there is a value, and where nothing is, there is none
+  pub some-value : (v : List ℕ) → 0 < length (encode size code v) → 0 < length v
+  some-value [] h = absurd (let f : ⊥ = omega (arith, ap length encode-none) in f)
+  some-value (b ∷ v) h = omega arith
+
+  pub no-value : (v : List ℕ) → length (encode size code v) ≡ 0 → v ≡ []
+  no-value [] e = refl
+  no-value (b ∷ v) e = absurd (let f : ⊥ = omega (arith, ap length (encode-more (b ∷ v) (omega arith))) in f)
+
+-- a value that fits in one part is one, whatever the most bytes of a part are
+pub encode-once : (size code : ℕ) (v : List ℕ) → 0 < length v → length v ≤ size → encode size code v ≡ code ∷ length v ∷ v
+encode-once size code v h g =
+    let some : 0 < size = omega arith in
+    let t : take size v ≡ v = take-all size v g in
+    encode-more size some code v h
+    ∙ (λ i. code ∷ length (t i) ∷ (t i ++ encode size code (drop-of-length-le v g i)))
+    ∙ ap (λ (r : List ℕ). code ∷ length v ∷ (v ++ r)) (encode-none size some code)
+    ∙ ap (λ (r : List ℕ). code ∷ length v ∷ r) (append-nil v)
 
 -- any write: what the checks decide, and what is left
 module _ (w : Write) (room : List ℕ) (place : ℕ) where

@@ -93,6 +93,11 @@ pub data Proper : ℕ → Content → Type 0 where
   threeBytes : (a b c : ℕ) → Proper 14 (raw (a ∷ b ∷ c ∷ []))
   flag : Proper 15 nothing
 
+-- a value that has no element: no bytes, or no numbers
+pub data Empty : Content → Type 0 where
+  noBytes : Empty (raw [])
+  noNumbers : Empty (numbers [])
+
 -- no further part of a code follows: no byte at all, or another one
 abbrev pub Apart : ℕ → List ℕ → Type 0
 Apart code [] = Unit {0}
