@@ -2,12 +2,14 @@
 -- Assumes nothing.
 use mathlib.Core.Path.{_≡_, refl, sym, ap, _∙_}
 use Prim.Native.Nat.{ℕ, zero, suc, _+_, _*_, _/_, _%_, _^_, _≤_, _<_}
-use mathlib.Core.Bool.{true, false, not}
+use mathlib.Core.Bool.{Bool, true, false, not, _&&_}
 use native.Mathlib.Omega.{arith}
 use native.Mathlib.Nat.{mul-suc}
+use native.Mathlib.Decide.{decLe}
 use mathlib.Core.List.{List, [], _∷_, _++_, flatten, append-nil}
 use borrow.Author.Tests.{ltb-true, leb-true, eqb-true, eq-eqb, ne-eqb}
-use lib.Dec.{eqb, leb, ltb}
+use lib.Arith.{mod-mul}
+use lib.Dec.{lit<, eqb, leb, ltb}
 use lib.ListN.{length, take, drop, getD, length-append}
 use lib.Seq.{drop-cons, take-nil, drop-nil, take-append-add, drop-append-add}
 use Rattle.facts.specs.BigEndian.{digits}
@@ -23,7 +25,7 @@ use Rattle.rfc.specs.Typed.{digitsOf, bytesIn, partSize, encodeKind, oth
 use Rattle.rfc.specs.Typed.{writeKind, writeValue}
 use Rattle.rfc.proofs.Numbers.{Refuses, here, later, refuses-front, refuses-behind, Clear, done, next, clear-both, long, not-long, not-too-long, past, not-past, place-within, pad-code, end-code, a-code, much, not-much, full, not-full}
 use Rattle.rfc.proofs.Codes.{size-some}
-use Rattle.rfc.proofs.Values.{value, Scalar, scalar-kind}
+use Rattle.rfc.proofs.Values.{value, Scalar, scalar-kind, Listed, addresses, pairs, u16s, codes}
 use Rattle.rfc.proofs.Writing.{encode-once, write-refused, write-given, given-left}
 
 -- the bytes of numbers, each of so many
@@ -141,9 +143,22 @@ pub no-pairs : (kind : ℕ) (v : List ℕ) → (kind ≡ 3 → ⊥) → oddPairs
 unfolding oddPairs
 no-pairs kind v n = rw (ne-eqb kind 3 n)
 
-pub pairs-odd : (v : List ℕ) → oddPairs 3 v ≡ not (eqb (length v % 8) 0)
+-- an odd number of addresses is no whole number of pairs
+half : (n : ℕ) → 4 * n % 8 ≡ n % 2 * 4
+half n =
+    let d : 4 * n / 4 ≡ n = omega arith in
+    let z : 4 * n % 4 ≡ 0 = omega arith in
+    mod-mul (4 * n) {m = 2} {c = 4} (lit< tt) (lit< tt) ∙ (λ i. d i % 2 * 4 + z i) ∙ omega arith
+
+pub odd-addresses : (kind : ℕ) (l : List ℕ) → oddPairs kind (digitsOf 4 l) ≡ (eqb kind 3 && not (eqb (length l % 2) 0))
 unfolding oddPairs sizeOf sizes
-pairs-odd v = refl
+odd-addresses kind l =
+    let n : ℕ = length l in
+    ap (λ (k : ℕ). eqb kind 3 && not (eqb (k % 8) 0)) (length-digits-of 4 l) ∙ ap (λ (b : Bool). eqb kind 3 && not b) (go (decLe 1 (n % 2)))
+  where
+    go : Dec (1 ≤ length l % 2) → eqb (4 * length l % 8) 0 ≡ eqb (length l % 2) 0
+    go (yes h) = ne-eqb (4 * length l % 8) 0 (λ z. omega (arith, half (length l))) ∙ sym (ne-eqb (length l % 2) 0 (λ z. omega arith))
+    go (no h) = eq-eqb (4 * length l % 8) 0 (omega (arith, half (length l))) ∙ sym (eq-eqb (length l % 2) 0 (omega arith))
 
 -- the checks of the room, the place and the code
 module _ (kind code : ℕ) (room : List ℕ) (place : ℕ) where
@@ -267,6 +282,14 @@ digits-byte n h =
     let e : n / 256 ^ 0 % 256 ≡ n = omega arith in
     ap (λ (k : ℕ). k ∷ []) e
 
+-- a list's bytes are those of its numbers
+pub listed-bytes : {kind width n : ℕ} → Listed kind width n → (l : List ℕ) → digitsOf width l ≡ bytesIn kind (numbers l)
+unfolding widthOf lookup within
+listed-bytes addresses l = refl
+listed-bytes pairs l = refl
+listed-bytes u16s l = refl
+listed-bytes codes l = refl
+
 -- numbers of one byte are their bytes, and so are codes
 digits-bytes : (v : List ℕ) → Bytes v → digitsOf 1 v ≡ v
 unfolding digitsOf flatten
@@ -276,5 +299,4 @@ digits-bytes (x ∷ v) b =
     ap (λ (l : List ℕ). l ++ digitsOf 1 v) (digits-byte x (b 0)) ∙ ap (λ (l : List ℕ). x ∷ l) (digits-bytes v rest)
 
 pub codes-bytes : (v : List ℕ) → Bytes v → bytesIn 11 (numbers v) ≡ v
-unfolding widthOf lookup within
-codes-bytes v b = digits-bytes v b
+codes-bytes v b = sym (listed-bytes codes v) ∙ digits-bytes v b

@@ -29,15 +29,15 @@ pub record AsBytes (kind code : ℕ) (v : List ℕ) : Type 0 where
   pub text : notText kind v ≡ false
   pub alike : encodeKind kind code v ≡ encode mostPart code v
 
--- a list kind that is cut at so many numbers, each of so many bytes
+-- a kind of list that is cut at so many numbers, each of so many bytes; it is no text and no flag
 pub record CutAt (kind width most : ℕ) : Type 0 where
   pub part-is : partSize kind ≡ width * most
-  pub some : 0 < most
+  pub some : 0 < width * most
   pub least : width * most ≤ mostPart
-  pub listed : (kind ≡ 10 → ⊥) × (kind ≡ 15 → ⊥)
+  pub other : (kind ≡ 10 → ⊥) × (kind ≡ 15 → ⊥)
 
 -- numbers of so many bytes whose parts, so many numbers each, fit in a room at a place
 pub record Ready (most width code place : ℕ) (l room : List ℕ) : Type 0 where
-  pub some : 0 < most
+  pub some : 0 < width * most
   pub least : width * most ≤ mostPart
   pub fits : place + length (encode (width * most) code (digitsOf width l)) ≤ length room

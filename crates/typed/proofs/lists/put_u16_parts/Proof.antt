@@ -17,24 +17,20 @@ Inv-loop room₀ place code numbers most done₀ from₀ room done from = Cut 2 
 abbrev μ-loop : tie.MeasureT-loop
 μ-loop room₀ place code numbers most done₀ from₀ room done from = length numbers - from
 
--- the arguments, in a turn of the loop, and what they are ready for
+-- the start, from a turn of the loop
 abbrev begun : tie.After-next-piece Inv-loop μ-loop → tie.Start Inv-loop μ-loop
 begun c = c .before .before .before .before .before
-
--- a part has some bytes
-some : (c : tie.Start Inv-loop μ-loop) → 0 < 2 * c .args .most
-some c = omega (arith, c .pre .some)
 
 -- the next part is among the bytes that are to be written
 fits : (c : tie.After-next-piece Inv-loop μ-loop)
     → c .before .before .loop .done + (2 + 2 * c .next-piece .result)
     ≤ length (encode (2 * begun c .args .most) (begun c .args .code) (digitsOf 2 (begun c .args .numbers .now)))
 fits c =
-    cut-fits 2 (begun c .args .most) (lit< tt) (some (begun c)) (c .before .before .loop .inv) (c .before .loop-test .taken)
+    cut-fits 2 (begun c .args .most) (lit< tt) (begun c .pre .some) (c .before .before .loop .inv) (c .before .loop-test .taken)
     (c .next-piece .ensures)
 
 loop-holds : tie.Need-loop-holds Inv-loop μ-loop
-loop-holds c = cut-none 2 (c .before .before .args .most) (lit< tt) (some (c .before .before))
+loop-holds c = cut-none 2 (c .before .before .args .most) (lit< tt) (c .before .before .pre .some)
 
 sub-next-piece : tie.Need-sub-next-piece Inv-loop μ-loop
 sub-next-piece c = omega arith
@@ -67,7 +63,7 @@ loop-again : tie.Need-loop-again Inv-loop μ-loop
 loop-again c =
     let turn = c .before .before .before .before in
     let wrote = c .before .before .put-u16-part in
-    cut-more 2 (begun turn .args .most) (lit< tt) (some (begun turn)) (turn .before .before .loop .inv) (turn .before .loop-test .taken)
+    cut-more 2 (begun turn .args .most) (lit< tt) (begun turn .pre .some) (turn .before .before .loop .inv) (turn .before .loop-test .taken)
     (turn .next-piece .ensures) (wrote .last .0) (begun turn .pre .fits) (wrote .kept .0) (wrote .ensures)
 
 same-length : tie.Need-same-length Inv-loop μ-loop
@@ -76,7 +72,7 @@ same-length c = c .before .loop .inv .parts .keeps
 returns : tie.Need-returns Inv-loop μ-loop
 returns c =
     let start = c .before .before .before .before in
-    cut-all 2 (start .args .most) (lit< tt) (some start) (c .before .loop .inv) (c .loop-test .left)
+    cut-all 2 (start .args .most) (lit< tt) (start .pre .some) (c .before .loop .inv) (c .loop-test .left)
 
 pub put-u16-parts-spec : {M : Type 1} → statement M
 put-u16-parts-spec =
