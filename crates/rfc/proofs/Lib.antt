@@ -8,6 +8,7 @@ pub mod Values
 pub mod Elements
 pub mod Readings
 pub mod Writing
+pub mod Routes
 pub mod Parts
 pub mod Lists
 pub mod Fewest
