@@ -1,18 +1,20 @@
--- `add` meets its contract: each `return` by the tests that led there.
+-- `add` meets its contract: a law of `added` for each return.
 -- Assumes nothing.
+use mathlib.Core.Path.{sym}
 use borrow.Author.Needs.{needs}
-use borrow.Author.Tests.{eq-eqb, ne-eqb, le-leb, lt-leb}
-use Rattle.routes.specs.Passes.{added}
+use Rattle.routes.proofs.Passes.{added-outside, added-full, added-byte}
 use Rattle.routes.proofs.add.Statement.{statement}
 use Rattle.routes.proofs.add.Tie as tie
 
 returns : tie.Need-returns
-unfolding added
-returns c = simp (eq-eqb _ _ (c .if1 .taken))
+returns c =
+    let a = c .before .before .args in
+    sym (added-outside (a .pass) (a .room .now) (a .byte) (c .if1 .taken))
 
 returns-2 : tie.Need-returns-2
-unfolding added
-returns-2 c = simp (ne-eqb _ _ (c .before .if1 .left), le-leb _ _ (c .if2 .taken))
+returns-2 c =
+    let a = c .before .before .before .args in
+    sym (added-full (a .pass) (a .room .now) (a .byte) (c .before .if1 .left) (c .if2 .taken))
 
 slice-write-room : tie.Need-slice-write-room
 slice-write-room c = search needs
@@ -27,8 +29,9 @@ same-length : tie.Need-same-length
 same-length c = search needs
 
 returns-3 : tie.Need-returns-3
-unfolding added
-returns-3 c = simp (ne-eqb _ _ (c .before .before .if1 .left), lt-leb _ _ (c .before .if2 .left))
+returns-3 c =
+    let a = c .before .before .before .before .args in
+    sym (added-byte (a .pass) (a .room .now) (a .byte) (c .before .before .if1 .left) (c .before .if2 .left))
 
 pub add-spec : {M : Type 1} → statement M
 add-spec =

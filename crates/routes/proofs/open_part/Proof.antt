@@ -1,33 +1,30 @@
--- `open_part` meets its contract: each `return` by the tests that led there.
+-- `open_part` meets its contract: a law of `opened` for each return.
 -- Assumes nothing.
 use mathlib.Core.Path.{sym}
-use Prim.Native.Nat.{_+_}
 use native.Mathlib.Omega.{arith}
-use lib.ListN.{length, length-set}
+use lib.ListN.{length-set}
 use borrow.Author.Needs.{needs}
-use borrow.Author.Tests.{le-ltb, lt-ltb}
-use Rattle.routes.specs.Passes.{opened}
+use Rattle.routes.proofs.Passes.{opened-inside, opened-full, opened-head}
 use Rattle.routes.proofs.open_part.Statement.{statement}
 use Rattle.routes.proofs.open_part.Tie as tie
 
 returns : tie.Need-returns
-unfolding opened
-returns c = simp (lt-ltb _ _ (c .if1 .taken))
+returns c =
+    let a = c .before .before .before .args in
+    sym (opened-inside (a .pass) (a .room .now) (c .if1 .taken))
 
 returns-2 : tie.Need-returns-2
-unfolding opened
 returns-2 c =
     let a = c .before .before .before .before .args in
-    simp (le-ltb _ _ (c .before .if1 .left), lt-ltb (length (a .room .now)) (a .pass .at + 2) (omega arith))
+    sym (opened-full (a .pass) (a .room .now) (c .before .if1 .left) (omega arith))
 
 sub-if3 : tie.Need-sub-if3
 sub-if3 c = search needs
 
 returns-3 : tie.Need-returns-3
-unfolding opened
 returns-3 c =
     let a = c .before .before .before .before .before .args in
-    simp (le-ltb _ _ (c .before .before .if1 .left), lt-ltb (length (a .room .now)) (a .pass .at + 2) (omega arith))
+    sym (opened-full (a .pass) (a .room .now) (c .before .before .if1 .left) (omega arith))
 
 next-part-requires : tie.Need-next-part-requires
 next-part-requires c κs = search needs
@@ -54,15 +51,11 @@ same-length : tie.Need-same-length
 same-length c = search needs
 
 returns-4 : tie.Need-returns-4
-unfolding opened
 returns-4 c =
     let tested = c .before .before in
     let a = tested .before .before .before .before .before .args in
-    simp (
-      le-ltb _ _ (tested .before .before .if1 .left),
-      le-ltb (length (a .room .now)) (a .pass .at + 2) (omega arith),
-      sym (c .before .next-part .ensures),
-    )
+    let n = c .before .next-part in
+    sym (opened-head (a .pass) (a .room .now) (n .result) (tested .before .before .if1 .left) (omega arith) (n .ensures))
 
 pub open-part-spec : {M : Type 1} → statement M
 open-part-spec =

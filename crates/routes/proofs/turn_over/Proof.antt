@@ -1,31 +1,27 @@
--- `turn_over` meets its contract: each `return` by the tests that led there.
+-- `turn_over` meets its contract: a law of `turned` for each return.
 -- Assumes nothing.
-use Prim.Native.Nat.{_+_}
+use mathlib.Core.Path.{sym}
 use native.Mathlib.Omega.{arith}
 use borrow.Author.Needs.{needs}
-use borrow.Author.Tests.{le-ltb, lt-ltb}
-use Rattle.routes.specs.Passes.{inParts, turned}
+use Rattle.routes.proofs.Passes.{turned-refused, turned-7, turned-8, turned-second}
 use Rattle.routes.proofs.turn_over.Statement.{statement}
 use Rattle.routes.proofs.turn_over.Tie as tie
 
 returns : tie.Need-returns
-unfolding turned
-returns c = simp (lt-ltb _ _ (c .if1 .taken))
+returns c =
+    let a = c .before .before .args in
+    sym (turned-refused (a .pass) (a .n) (c .if1 .taken))
 
 returns-2 : tie.Need-returns-2
-unfolding turned
-returns-2 c = simp (le-ltb _ _ (c .before .if1 .left), lt-ltb _ _ (c .if2 .taken))
+returns-2 c =
+    let a = c .before .before .before .args in
+    sym (turned-7 (a .pass) (a .n) (c .before .if1 .left) (c .if2 .taken))
 
 returns-3 : tie.Need-returns-3
-unfolding turned
 returns-3 c =
-    let a = c .before .before .before .before .before .args in
-    let p = a .pass in
-    simp (
-      le-ltb _ _ (c .before .before .before .if1 .left),
-      le-ltb _ _ (c .before .before .if2 .left),
-      lt-ltb (a .n) (p .at + inParts (p .len)) (omega arith),
-    )
+    let fits = c .before .before in
+    let a = fits .before .before .before .args in
+    sym (turned-8 (a .pass) (a .n) (fits .before .if1 .left) (fits .if2 .left) (omega arith))
 
 sub-if4 : tie.Need-sub-if4
 sub-if4 c = search needs
@@ -40,26 +36,16 @@ add-if4-2 : tie.Need-add-if4-2
 add-if4-2 c = search needs
 
 returns-4 : tie.Need-returns-4
-unfolding turned
 returns-4 c =
-    let a = c .before .before .before .before .before .before .before .args in
-    let p = a .pass in
-    simp (
-      le-ltb _ _ (c .before .before .before .before .before .if1 .left),
-      le-ltb _ _ (c .before .before .before .before .if2 .left),
-      lt-ltb (a .n) (p .at + inParts (p .len)) (omega arith),
-    )
+    let fits = c .before .before .before .before in
+    let a = fits .before .before .before .args in
+    sym (turned-8 (a .pass) (a .n) (fits .before .if1 .left) (fits .if2 .left) (omega arith))
 
 returns-5 : tie.Need-returns-5
-unfolding turned
 returns-5 c =
-    let a = c .before .before .before .before .before .before .before .args in
-    let p = a .pass in
-    simp (
-      le-ltb _ _ (c .before .before .before .before .before .if1 .left),
-      le-ltb _ _ (c .before .before .before .before .if2 .left),
-      le-ltb (a .n) (p .at + inParts (p .len)) (omega arith),
-    )
+    let fits = c .before .before .before .before in
+    let a = fits .before .before .before .args in
+    sym (turned-second (a .pass) (a .n) (fits .before .if1 .left) (fits .if2 .left) (omega arith))
 
 pub turn-over-spec : {M : Type 1} → statement M
 turn-over-spec =
