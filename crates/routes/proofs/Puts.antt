@@ -83,9 +83,9 @@ module _ (byte : ℕ) (v : List ℕ) (told : Told v) where
       let next : encode mostPart routesCode all ≡ routesCode ∷ n ∷ rest n all =
       encode-next mostPart (lit< tt) routesCode all n (omega arith) same in
       let d : State = (headed n p, set (set room (p .at) routesCode) (p .at + 1) n) in
-      let open : opened (p, room) ≡ d = opened-head p room n (omega arith) (omega (arith, ap length next)) refl in
+      let begins : opened (p, room) ≡ d = opened-head p room n (omega arith) (omega (arith, ap length next)) refl in
       let e : put (p, room) byte ≡ put d byte =
-      ap (λ (x : State). added x byte) (open ∙ sym (opened-inside (d .0) (d .1) (omega arith))) in
+      ap (λ (x : State). added x byte) (begins ∙ sym (opened-inside (d .0) (d .1) (omega arith))) in
       let head : Puts (p, room) (routesCode ∷ n ∷ []) d =
       record { to = refl; left = set-set-over room (p .at) routesCode n (omega (arith, ap length next)) } in
       let long : length (d .1) ≡ length room =
@@ -109,7 +109,7 @@ module _ (byte : ℕ) (v : List ℕ) (told : Told v) where
 puts-rest : (v : List ℕ) → Told v
 puts-rest [] d sum fits =
     subst (λ (l : List ℕ). Puts d l d) (sym (rest-none (d .0 .part))) (puts-none d)
-puts-rest (byte ∷ v) = by-part byte v (puts-rest v)
+puts-rest (byte ∷ v) d sum fits = by-part byte v (puts-rest v) d sum fits
 
 -- a whole value
 pub puts-value : (v : List ℕ) (d : State) → d .0 .part ≡ 0 → d .0 .len ≡ length v
