@@ -1,3 +1,4 @@
 pub mod Passes
 pub mod Puts
 pub mod Rows
+pub mod Together
