@@ -6,11 +6,11 @@ use mathlib.Core.Bool.{Bool, true, false, cond}
 use mathlib.Core.List.{List, [], _∷_, _++_, foldl}
 use native.Mathlib.Omega.{arith}
 use native.Mathlib.Nat.{not-suc-le-zero}
-use lib.Dec.{lit<}
+use lib.Dec.{eqb, leb, ltb, lit<}
 use lib.ListN.{length, take, drop, set, length-append, length-set}
 use lib.Seq.{take-nil, drop-nil}
 use Rattle.facts.specs.Over.{over}
-use Rattle.facts.proofs.Over.{over-nil, over-over, set-over, set-set-over, length-over}
+use Rattle.facts.proofs.Over.{over-nil, over-over, set-over, set-set-over}
 use Rattle.rfc.specs.Numbers.{mostPart}
 use Rattle.rfc.specs.Routes.{routesCode}
 use Rattle.rfc.specs.Writing.{encode}
@@ -132,11 +132,20 @@ Keeps d e = (e .0 .refusal ≡ d .0 .refusal) × (e .0 .writing ≡ d .0 .writin
 
 opened-keeps : (d : State) → Keeps d (opened d)
 unfolding opened
-opened-keeps d = either (Keeps d) _ _ _ (refl, refl) (either (Keeps d) _ _ _ (refl, refl) (refl, refl))
+opened-keeps d =
+    let p = d .0 in
+    let n = min mostPart (p .len) in
+    let e : State = (headed n p, set (set (d .1) (p .at) routesCode) (p .at + 1) n) in
+    let full : Bool = ltb (length (d .1)) (p .at + 2) in
+    either (Keeps d) (ltb 0 (p .part)) d (cond full d e) (refl, refl) (either (Keeps d) full d e (refl, refl) (refl, refl))
 
 added-keeps : (d : State) (byte : ℕ) → Keeps d (added d byte)
 unfolding added
-added-keeps d byte = either (Keeps d) _ _ _ (refl, refl) (either (Keeps d) _ _ _ (refl, refl) (refl, refl))
+added-keeps d byte =
+    let p = d .0 in
+    let e : State = (onward p, set (d .1) (p .at) byte) in
+    let full : Bool = leb (length (d .1)) (p .at) in
+    either (Keeps d) (eqb (p .part) 0) d (cond full d e) (refl, refl) (either (Keeps d) full d e (refl, refl) (refl, refl))
 
 pub puts-keep : (v : List ℕ) (d : State) → (foldl put d v .0 .refusal ≡ d .0 .refusal) × (foldl put d v .0 .writing ≡ d .0 .writing)
 puts-keep [] d = (refl, refl)
