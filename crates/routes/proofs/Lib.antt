@@ -2,3 +2,5 @@ pub mod Passes
 pub mod Puts
 pub mod Rows
 pub mod Together
+pub mod Values
+pub mod Lending
