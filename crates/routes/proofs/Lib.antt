@@ -4,3 +4,4 @@ pub mod Rows
 pub mod Together
 pub mod Values
 pub mod Lending
+pub mod Arrays
