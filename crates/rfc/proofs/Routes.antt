@@ -13,7 +13,8 @@ use Rattle.facts.proofs.Least.{take-least}
 use Rattle.rfc.specs.Numbers.{given, refused, mostBytes, mostValue, mostPart}
 use Rattle.rfc.specs.Writing.{encode, writeChecks, answerTo, roomAfter}
 use Rattle.rfc.specs.Routes.{Route, routesCode, mostWidth, significant, routeBytes, routesBytes, tooWide, writeRoutes}
-use Rattle.rfc.proofs.Numbers.{here, later, refuses, done, next, clears, long, not-long, past, not-past, much, not-much, full, not-full}
+use Rattle.rfc.proofs.Numbers.{here, later, refuses, done, next, clears}
+use Rattle.rfc.proofs.Numbers.{long, not-long, past, not-past, much, not-much, full, not-full}
 use Rattle.rfc.proofs.Writing.{given-left}
 
 pub significant-is : (width : ℕ) → significant width ≡ (width + 7) / 8

@@ -3,7 +3,7 @@
 --     lends-room                  it is lent on for a new lifetime
 --     room-comes-back             that lifetime ends, and it is had again, with the last bytes
 -- Assumes nothing.
-use mathlib.Core.Path.{_≡_, refl, sym, ap, subst, _∙_}
+use mathlib.Core.Path.{_≡_, refl, sym, ap, subst}
 use Prim.Native.Nat.{ℕ}
 use mathlib.Core.List.{List, [], _∷_}
 use lib.ListN.{length}
@@ -48,7 +48,8 @@ Kept x κ q κ′ γ′ l =
     fsep (flent κ′ (Held u8 (length l) b o γ′))
     (fsep (fobor κ q (Held u8 (length l) b o (x .name))) (fsep (fobs (x .name) bytes) (fauth (x .name) bytes)))
 
-module _ {M : Type 1} (𝓤 : URA M) (H : Heap 𝓤) (A : Atoms 𝓤) (W : Given 𝓤 H A) (x : RefT (List ℕ)) (κ κ′ : Lft) (q : Share) (l : List ℕ) where
+module _ {M : Type 1} (𝓤 : URA M) (H : Heap 𝓤) (A : Atoms 𝓤) (W : Given 𝓤 H A)
+    (x : RefT (List ℕ)) (κ κ′ : Lft) (q : Share) (l : List ℕ) where
   abbrev vals : List Val
   vals = sliceVal (x .ptr) (length l) ∷ []
 
@@ -77,8 +78,8 @@ module _ {M : Type 1} (𝓤 : URA M) (H : Heap 𝓤) (A : Atoms 𝓤) (W : Given
       let o = x .ptr .1 in
       qed W (‵ (fdead κ′) ∷ ‵ (Kept x κ q κ′ γ′ l) ∷ ‵ (finally u8 γ′ m) ∷ []) ∵ updating ! $
       move ! (1 ∷ []) $ fsplit ! $ move ! (2 ∷ 0 ∷ 3 ∷ []) $
-      use3 W (later (‵ (Arr (mem u8) (length l) .lies m b o))) (slice-back 𝓤 H A W u8 κ′ γ′ m (length l) b o) $ await ! tt $ fsplit ! $ drop ! $
-      use1 W (‵ (row u8 fullShare m b o)) (whole-out 𝓤 H A W u8 m b o) $
+      use3 W (later (‵ (Arr (mem u8) (length l) .lies m b o))) (slice-back 𝓤 H A W u8 κ′ γ′ m (length l) b o) $ await ! tt $
+      fsplit ! $ drop ! $ use1 W (‵ (row u8 fullShare m b o)) (whole-out 𝓤 H A W u8 m b o) $
       move ! (1 ∷ []) $ fsplit ! $ move ! (1 ∷ []) $ fsplit ! $ move ! (3 ∷ 2 ∷ 0 ∷ 1 ∷ []) $ closes-slice ! tt u8 l m e b o $ at-once ! $
       fjoin ! $ pureI ! (at-slice u8 (roomAt x (x .name) m) vals) (tt, (tt, tt))
       (ap (λ (k : ℕ). sliceVal (b, o) k ∷ []) (sym e), subst (Room u8) (sym e) room) $ fjoin ! $ done !

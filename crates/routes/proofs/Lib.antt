@@ -5,3 +5,4 @@ pub mod Together
 pub mod Values
 pub mod Lending
 pub mod Arrays
+pub mod Unique

@@ -9,7 +9,8 @@ use borrow.Author.Tests.{le-ltb, lt-ltb, eq-eqb, ne-eqb, le-leb, lt-leb}
 use Rattle.rfc.specs.Numbers.{given, refused, mostBytes, mostValue, mostPart}
 use Rattle.rfc.specs.Routes as rfc
 use Rattle.routes.specs.Rows.{rowOf}
-use Rattle.routes.specs.Passes.{State, first, refuse, longer, second, headed, onward, begun, measured, inParts, turned, opened, added, put, passed, answered}
+use Rattle.routes.specs.Passes.{State, first, refuse, longer, second, headed, onward}
+use Rattle.routes.specs.Passes.{begun, measured, inParts, turned, opened, added, put, passed, answered}
 use Rattle.routes.specs.declared.Pass.{Pass}
 use Rattle.routes.specs.declared.Route.{Route}
 

@@ -58,7 +58,8 @@ Told v =
 -- one byte more, inside a part
 module _ (byte : ℕ) (v : List ℕ) (told : Told v) where
   inside : (p : Pass) (room : List ℕ) → 0 < p .part → p .part + p .len ≡ length (byte ∷ v)
-      → p .at + length (rest (p .part) (byte ∷ v)) ≤ length room → Puts (p, room) (rest (p .part) (byte ∷ v)) (foldl put (p, room) (byte ∷ v))
+      → p .at + length (rest (p .part) (byte ∷ v)) ≤ length room
+      → Puts (p, room) (rest (p .part) (byte ∷ v)) (foldl put (p, room) (byte ∷ v))
   inside p room some sum fits =
       let more : rest (p .part) (byte ∷ v) ≡ byte ∷ rest (p .part - 1) v = rest-more (p .part) byte v some in
       let d : State = (onward p, set room (p .at) byte) in

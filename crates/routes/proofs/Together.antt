@@ -2,7 +2,7 @@
 -- Assumes nothing.
 use mathlib.Core.Path.{_≡_, refl, sym, ap, _∙_, subst}
 use Prim.Native.Nat.{ℕ, suc, _+_, _≤_, _<_, min}
-use mathlib.Core.Bool.{true, false}
+use mathlib.Core.Bool.{false}
 use mathlib.Core.List.{List, foldl}
 use native.Mathlib.Omega.{arith}
 use native.Mathlib.Decide.{decLe}
@@ -16,10 +16,11 @@ use Rattle.rfc.proofs.Routes.{routes-2, routes-4, routes-12, routes-7, routes-8
 use Rattle.encoder.specs.Written.{says, Wrote}
 use Rattle.encoder.specs.declared.Written.{Written}
 use Rattle.routes.specs.Rows.{rowsOf}
-use Rattle.routes.specs.Passes.{State, first, refuse, second, begun, inParts, turned, put, passed, answered}
+use Rattle.routes.specs.Passes.{State, first, refuse, second, begun, turned, put, passed, answered}
 use Rattle.routes.specs.declared.Pass.{Pass}
 use Rattle.routes.specs.declared.Route.{Route}
-use Rattle.routes.proofs.Passes.{begun-2, begun-4, begun-first, turned-refused, turned-7, turned-8, turned-second, answered-refused, answered-given}
+use Rattle.routes.proofs.Passes.{begun-2, begun-4, begun-first, turned-refused, turned-7, turned-8, turned-second}
+use Rattle.routes.proofs.Passes.{answered-refused, answered-given}
 use Rattle.routes.proofs.Puts.{puts-value, puts-keep}
 use Rattle.routes.proofs.Rows.{all-refused, all-put, withLen, Measures, wide, narrow, all-measured}
 
@@ -62,8 +63,8 @@ module _ (rs : List Route) (room : List ℕ) (place : ℕ) where
             let p = puts-value value d refl refl fits in
             subst Ends (sym (all-put rs d (omega arith) refl)) (
               answered-given (foldl put d value .0) (omega (arith, k .0))
-              ∙ ap given (p .0)
-              ∙ sym (routes-given (rowsOf rs) room place short within tight little fits),
+                  ∙ ap given (p .0)
+                  ∙ sym (routes-given (rowsOf rs) room place short within tight little fits),
               p .1 ∙ sym (routes-left (rowsOf rs) room place short within tight little fits),
             )
 

@@ -5,7 +5,7 @@
 --     copies-pass                 the state of a pass is Copy
 --     Answer, stores-answer       what an answer owns; it can be stored
 -- Assumes nothing.
-use Prim.Native.Nat.{ℕ, _<_, _^_}
+use Prim.Native.Nat.{_<_, _^_}
 use mathlib.Core.List.{List, [], _∷_}
 use lib.Dec.{T}
 use lib.ListN.{length}

@@ -97,7 +97,13 @@ fn one(room: &mut [u8], pass: Pass, route: Route) -> Pass
 fn begin(n: usize, place: usize) -> Pass
     ensures { λ r. ⌜ r ≡ begun n place ⌝ }
 {
-    let mut pass = Pass { writing: false, refusal: 0, at: place, part: 0, len: 0 };
+    let mut pass = Pass {
+        writing: false,
+        refusal: 0,
+        at: place,
+        part: 0,
+        len: 0,
+    };
     if n > MOST_BYTES {
         pass.refusal = 2;
         return pass;

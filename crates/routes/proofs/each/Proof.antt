@@ -1,6 +1,6 @@
 -- `each` meets its contract: its code is walked by hand, since a record comes out of a lent table. A turn of the loop copies a record and
--- calls `one`, to which the room is lent on; all that is known of `one` is that it meets its contract. What is left of the table gives, from
--- the state at the loop's head, what the whole table gives from the start.
+-- calls `one`, to which the room is lent on; all that is known of `one` is that it meets its contract. What is left of the table gives,
+-- from the state at the loop's head, what the whole table gives from the start.
 -- Assumes nothing.
 use mathlib.Core.Path.{_≡_, refl, sym, _∙_}
 use Prim.Native.Nat.{ℕ, _<_, _^_, _*_, _+_, _-_}
@@ -27,7 +27,8 @@ use types.Kit.{Given, Item, Post, Sq, runs, anyQ, atRet, post, ‵, raw, _⊛_, 
 use types.Kit.{split, join, rewrite, fsplit, fjoin, feqL, suffices, frame, done}
 use types.Part.{agg, whole, sub, look-in}
 use types.Run.{look, look-raw, store, forget, stop, hop, fld, from, load, addr, lit, of-opd, bin, assigns, assigns-last, land, init}
-use types.Run.{first, blocks, loops, again, Below, stays, leaves-loop, exec, returns, enter, alloc1, alloc0, params1, pass1, pass0, free1, free0}
+use types.Run.{first, blocks, loops, again, Below, stays, leaves-loop, exec, returns}
+use types.Run.{enter, alloc1, alloc0, params1, pass1, pass0, free1, free0}
 use types.Share.{arr-parts}
 use sound.WpLaws.{fmOf, WpFn-mono}
 use borrow.Author.Tests.{ltb-true, ltb-false}
@@ -54,7 +55,7 @@ use Rattle.routes.specs.Passes.{State, passed}
 use Rattle.routes.specs.declared.Pass.{Pass}
 use Rattle.routes.specs.declared.Route.{Route}
 use Rattle.routes.proofs.Values.{sliceOf, slice-typed, Table, keeps-table, Holds, stores-pass, copies-pass}
-use Rattle.routes.proofs.Lending.{roomAt, Lent, Kept, lends-room, room-comes-back}
+use Rattle.routes.proofs.Lending.{roomAt, Lent, lends-room, room-comes-back}
 use Rattle.routes.proofs.Route as T
 use Rattle.routes.proofs.Route.Laws as T′
 use Rattle.routes.proofs.Pass as P
@@ -174,8 +175,8 @@ module _ {M : Type 1} (𝓤 : URA M) (H : Heap 𝓤) (A : Atoms 𝓤) (W : Given
       nothing ! $ owned ! R (Is R) (struct.makes T.the-type T′.the-plain 𝓤 H A) r _ is $ fjoin ! $ move ! (3 ∷ 0 ∷ []) $ fjoin ! $
       move ! (2 ∷ 0 ∷ []) $ fjoin ! $ nothing ! $ move ! (2 ∷ 0 ∷ []) $ join ! $ join ! $ frame ! $ done !
 
-  module _ (𝓣 : Tables 𝓤 H) (one-known : Triple 𝓤 (𝓣 .C #routes·one) (One 𝓤 H A mem run)) (room-t : Room R n) (room-r : Room u8 (length (xr .now)))
-      (l₀ l₁ l₂ l₃ l₄ l₅ l₆ l₇ l₈ l₉ l₁₀ l₁₁ : ℕ) where
+  module _ (𝓣 : Tables 𝓤 H) (one-known : Triple 𝓤 (𝓣 .C #routes·one) (One 𝓤 H A mem run))
+      (room-t : Room R n) (room-r : Room u8 (length (xr .now))) (l₀ l₁ l₂ l₃ l₄ l₅ l₆ l₇ l₈ l₉ l₁₀ l₁₁ : ℕ) where
     abbrev C : Calls 𝓤 H
     C = 𝓣 .C
 
@@ -198,8 +199,8 @@ module _ {M : Type 1} (𝓤 : URA M) (H : Heap 𝓤) (A : Atoms 𝓤) (W : Given
         ∷ ‵ (fat fullShare roomTy l₁ 0 (sliceOf xr)) ∷ ‵ (fat fullShare P′.mir l₂ 0 v₀) ∷ ‵ (fat fullShare tableTy l₃ 0 (sliceOf xt))
         ∷ ‵ (froom P′.mir l₀ 0) ∷ ‵ (flft κt qt) ∷ ‵ Shared ∷ ‵ (Table (named 1) κt xt) ∷ ‵ (Holds p₀ v₀)
         ∷ ‵ (fdies P′.mir l₀) ∷ ‵ (fdies roomTy l₁) ∷ ‵ (fdies P′.mir l₂) ∷ ‵ (fdies tableTy l₃) ∷ ‵ (fdies P′.mir l₄) ∷ ‵ (fdies word l₅)
-        ∷ ‵ (fdies word l₆) ∷ ‵ (fdies tyBool l₇) ∷ ‵ (fdies ref l₈) ∷ ‵ (fdies (sliceTy ref) l₉) ∷ ‵ (fdies tyPtr l₁₀) ∷ ‵ (fdies T′.mir l₁₁)
-        ∷ []
+        ∷ ‵ (fdies word l₆) ∷ ‵ (fdies tyBool l₇) ∷ ‵ (fdies ref l₈) ∷ ‵ (fdies (sliceTy ref) l₉) ∷ ‵ (fdies tyPtr l₁₀)
+        ∷ ‵ (fdies T′.mir l₁₁) ∷ []
 
     -- what is to hold when the loop is left
     abbrev Left : Post 𝓤 H
@@ -214,7 +215,8 @@ module _ {M : Type 1} (𝓤 : URA M) (H : Heap 𝓤) (A : Atoms 𝓤) (W : Given
     unfolding afterTurn
     more t e =
         -- `i < routes.len()`
-        sets ! (of-opd ! (load ! (from ! (fld ! refl (stop !))) (look-in ! 13 (sub ! 1 refl (whole !))))) 3 refl (tt, record { fits = room-t .0 }) $
+        sets ! (of-opd ! (load ! (from ! (fld ! refl (stop !))) (look-in ! 13 (sub ! 1 refl (whole !)))))
+        3 refl (tt, record { fits = room-t .0 }) $
         sets ! (bin ! (var ! 2 refl) (var ! 3 refl) tt) 4 refl (tt, tt) $
         rewrite ! 4 (λ (c : Bool). ‵ (fat fullShare tyBool l₇ 0 (vbool c))) e refl $ stays ! (var ! 4 refl) $
         -- the room is lent on
@@ -285,7 +287,8 @@ module _ {M : Type 1} (𝓤 : URA M) (H : Heap 𝓤) (A : Atoms 𝓤) (W : Given
     leaves : (t : Head rows d₀) → ltb (t .i) n ≡ false → Turn t
     unfolding afterTurn
     leaves t e =
-        sets ! (of-opd ! (load ! (from ! (fld ! refl (stop !))) (look-in ! 13 (sub ! 1 refl (whole !))))) 3 refl (tt, record { fits = room-t .0 }) $
+        sets ! (of-opd ! (load ! (from ! (fld ! refl (stop !))) (look-in ! 13 (sub ! 1 refl (whole !)))))
+        3 refl (tt, record { fits = room-t .0 }) $
         sets ! (bin ! (var ! 2 refl) (var ! 3 refl) tt) 4 refl (tt, tt) $
         rewrite ! 4 (λ (c : Bool). ‵ (fat fullShare tyBool l₇ 0 (vbool c))) e refl $ leaves-loop ! (var ! 4 refl) $
         exec ! C Λ E mir.t-4 (atRet E (Ends .post bound)) $

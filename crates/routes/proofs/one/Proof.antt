@@ -2,7 +2,6 @@
 -- Assumes nothing.
 use mathlib.Core.Path.{sym, ap, _∙_}
 use borrow.Author.Needs.{needs}
-use Rattle.routes.specs.Passes.{State}
 use Rattle.routes.specs.declared.Pass.{Pass}
 use Rattle.routes.proofs.Passes.{passed-refused, passed-writing, passed-measuring}
 use Rattle.routes.proofs.one.Statement.{statement}

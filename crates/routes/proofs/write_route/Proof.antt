@@ -1,5 +1,5 @@
--- `write_route` meets its contract: its code is walked by hand, since it lends a table of records. The table is in a local, which is lent to
--- `write_routes` for the call and comes back; the room is passed on for good. Whoever calls `write_route` needs no proof by hand for that.
+-- `write_route` meets its contract: its code is walked by hand, since it lends a table of records. The table is in a local, which is lent
+-- to `write_routes` for the call and comes back; the room is passed on for good. Whoever calls `write_route` needs no proof by hand.
 -- Assumes nothing.
 use mathlib.Core.Path.{refl}
 use Prim.Native.Nat.{ℕ, _<_, _^_}
@@ -145,12 +145,13 @@ module _ {M : Type 1} (𝓤 : URA M) (H : Heap 𝓤) (A : Atoms 𝓤) (W : Given
         -- the table comes back
         move ! (2 ∷ []) $ use1 W (tokens ν) (id⊢ 𝓤 _) $ split ! $ move ! (1 ∷ []) $ split ! $
         move ! (0 ∷ 7 ∷ []) $ table-comes-back ! tt r is $
-        -- the locals are let go, _0 first: [_4 0; true 1; the room's token 2; the answer 3; its last bytes 4; the place 5; the route 6; _8 7]
+        -- the locals are let go, _0 first: [_4 0; true 1; the room's token 2; the answer 3; last bytes 4; the place 5; the route 6; _8 7]
         returns ! (look ! 22 refl) $
         move ! (22 ∷ 23 ∷ 20 ∷ 21 ∷ 18 ∷ 19 ∷ 16 ∷ 17 ∷ 0 ∷ 15 ∷ 13 ∷ 14 ∷ 11 ∷ 12 ∷ 9 ∷ 10 ∷ 7 ∷ 8 ∷ []) $
         freed ! $ freed ! $ freed ! $ freed ! $ freed ! $ freed ! $ freed ! $ freed ! $ freed ! $ free0 ! $
         -- the contract's fact, and what is had at the end: the token, then the three parameters and the answer
-        suffices ! _ (ends-at 𝓤 H A one.ended stayed (one.clauses 𝓤 H A mem run) W bound v a (ws .0, (tt, (tt, tt))) (long, (tt, (tt, tt)))) $
+        suffices ! _ (ends-at 𝓤 H A one.ended stayed (one.clauses 𝓤 H A mem run) W bound v a
+        (ws .0, (tt, (tt, tt))) (long, (tt, (tt, tt)))) $
         says ! wrote $ move ! (1 ∷ 0 ∷ []) $ join ! $ frame ! $
         move ! (2 ∷ 3 ∷ []) $ fjoin ! $ move ! (2 ∷ 0 ∷ []) $ fjoin ! $ done !)))))))))))))
 

@@ -1,6 +1,6 @@
--- `write_routes` meets its contract: its code is walked by hand, since it is lent a table of records. All that is known of the functions that
--- it calls is that each meets its contract; what they promise together is in `Together`. The table is lent to both passes, and the room is
--- lent on to each and comes back.
+-- `write_routes` meets its contract: its code is walked by hand, since it is lent a table of records. All that is known of the functions
+-- that it calls is that each meets its contract; what they promise together is in `Together`. The table is lent to both passes, and the
+-- room is lent on to each and comes back.
 -- Assumes nothing.
 use mathlib.Core.Path.{_≡_, refl, _∙_}
 use Prim.Native.Nat.{ℕ, _<_, _^_}
@@ -239,14 +239,17 @@ module _ {M : Type 1} (𝓤 : URA M) (H : Heap 𝓤) (A : Atoms 𝓤) (W : Given
         drop ! $ move ! (1 ∷ []) $ drop ! $ stores-answer ! r v (λ typed. lands-in ! 30 refl typed $
         -- the locals are let go, _0 first
         returns ! (look ! 30 refl) $
-        move ! (30 ∷ 31 ∷ 28 ∷ 29 ∷ 26 ∷ 27 ∷ 24 ∷ 25 ∷ 22 ∷ 23 ∷ 20 ∷ 21 ∷ 18 ∷ 19 ∷ 16 ∷ 17 ∷ 14 ∷ 15 ∷ 12 ∷ 13 ∷ 10 ∷ 11 ∷ 8 ∷ 9 ∷ 6 ∷ 7 ∷ []) $
-        freed ! $ freed ! $ freed ! $ freed ! $ freed ! $ freed ! $ freed ! $ freed ! $ freed ! $ freed ! $ freed ! $ freed ! $ freed ! $ free0 ! $
+        move ! (30 ∷ 31 ∷ 28 ∷ 29 ∷ 26 ∷ 27 ∷ 24 ∷ 25 ∷ 22 ∷ 23 ∷ 20 ∷ 21 ∷ 18 ∷ 19 ∷ 16 ∷ 17 ∷ 14 ∷ 15 ∷ 12 ∷ 13 ∷ 10 ∷ 11
+        ∷ 8 ∷ 9 ∷ 6 ∷ 7 ∷ []) $
+        freed ! $ freed ! $ freed ! $ freed ! $ freed ! $ freed ! $ freed ! $ freed ! $ freed ! $ freed ! $ freed ! $ freed ! $ freed ! $
+        free0 ! $
         -- the contract's fact, and what is had at the end: the tokens, then the three parameters and the answer
         suffices ! _ (ends-at 𝓤 H A write.ended stayed (write.clauses 𝓤 H A mem run) W bound v r
         (l₄′, (tt, (tt, tt))) (same₄, (tt, (tt, tt)))) $
         says ! (both-passes (xt .now) (xr .now) place p₁ p₂ p₃ p₄ l₂′ l₄′ r did₁ did₂ did₃ did₄ did) $
         nothing ! $ move ! (4 ∷ 0 ∷ []) $ join ! $ move ! (3 ∷ 0 ∷ []) $ join ! $ frame ! $
-        nothing ! $ move ! (3 ∷ 0 ∷ []) $ fjoin ! $ move ! (3 ∷ 0 ∷ []) $ fjoin ! $ move ! (2 ∷ 0 ∷ []) $ fjoin ! $ done !)))))))))))))))))))))))
+        nothing ! $ move ! (3 ∷ 0 ∷ []) $ fjoin ! $ move ! (3 ∷ 0 ∷ []) $ fjoin ! $ move ! (2 ∷ 0 ∷ []) $ fjoin ! $
+        done !)))))))))))))))))))))))
 
 -- the walk, for any arguments, is what the contract asks
 write-meets : {M : Type 1} (𝓤 : URA M) (H : Heap 𝓤) (A : Atoms 𝓤) (W : Given 𝓤 H A) (mem : Memory → SProp 𝓤) (run : Routine → Fun 𝓤)
