@@ -1,5 +1,6 @@
 -- What the functions of this crate take and answer, by their machine values.
 --     sliceOf, slice-typed        a lent slice as the machine has it, and that this is well typed
+--     noRoute                     the record that would stand past a table's end
 --     Table, keeps-table          what a `&[Route]` owns. It is Copy: one copy can be passed on and one kept
 --     Holds, stores-pass          what the state of a pass owns. Its machine value is well typed, so that it can be stored
 --     copies-pass                 the state of a pass is Copy
@@ -36,6 +37,9 @@ sliceOf x = sliceVal (x .ptr) (length (x .now))
 
 pub slice-typed : {A : Type 0} (x : RefT (List A)) → length (x .now) < 2 ^ 64 → WT (sliceOf x)
 slice-typed x fits = (tt, (record { fits = fits }, tt))
+
+abbrev pub noRoute : Route
+noRoute = record { width = 0; destination = 0; gateway = 0 }
 
 abbrev pub Table : Lifetime → Lft → RefT (List Route) → Fml
 Table ℓ κ x = ShrSlice ℓ κ R .own x (sliceOf x ∷ [])

@@ -219,7 +219,8 @@ fn put_next(room: &mut [u8], pass: Pass, byte: u8) -> Pass
     add(room, open, byte)
 }
 
-// Puts the head of a part, its code and its length, where no byte of a part is to come.
+// Puts the head of a part, its code and its length, where no byte of a part is to come. One that does not fit is left out; before the
+// second pass it was seen that all fit.
 fn open_part(room: &mut [u8], mut pass: Pass) -> Pass
     ensures { λ r. ⌜ (r, now (room .exit)) ≡ opened (pass, now (room .entry)) ⌝ }
 {
@@ -252,7 +253,7 @@ fn next_part(len: usize) -> usize
     len
 }
 
-// Puts one byte of a part.
+// Puts one byte of a part, if one is to come and it fits.
 fn add(room: &mut [u8], mut pass: Pass, byte: u8) -> Pass
     ensures { λ r. ⌜ (r, now (room .exit)) ≡ added (pass, now (room .entry)) byte ⌝ }
 {

@@ -54,7 +54,7 @@ use Rattle.lent.proofs.Steps.{var, two, three, sets, calls, freed}
 use Rattle.routes.specs.Passes.{State, passed}
 use Rattle.routes.specs.declared.Pass.{Pass}
 use Rattle.routes.specs.declared.Route.{Route}
-use Rattle.routes.proofs.Values.{sliceOf, slice-typed, Table, keeps-table, Holds, stores-pass, copies-pass}
+use Rattle.routes.proofs.Values.{sliceOf, slice-typed, noRoute, Table, keeps-table, Holds, stores-pass, copies-pass}
 use Rattle.routes.proofs.Lending.{roomAt, Lent, lends-room, room-comes-back}
 use Rattle.routes.proofs.Route as T
 use Rattle.routes.proofs.Route.Laws as T′
@@ -80,9 +80,6 @@ size = cell R .size
 -- a record's machine values
 abbrev valsOf : Route → List Val
 valsOf = struct.vals T.the-type T′.the-laws
-
-abbrev noRoute : Route
-noRoute = record { width = 0; destination = 0; gateway = 0 }
 
 -- the types of the locals
 abbrev word : Ty
