@@ -292,8 +292,10 @@ module _ {M : Type 1} (𝓤 : URA M) (H : Heap 𝓤) (A : Atoms 𝓤) (W : Given
         move ! (1 ∷ []) $ stores-pass ! (t .p) (t .v) (λ typed. move ! (1 ∷ 0 ∷ []) $
         sets ! (of-opd ! (var ! 0 refl)) 14 refl typed $ returns ! (look ! 14 refl) $
         -- the locals are let go, _0 first; those from _8 on are empty
-        move ! (14 ∷ 19 ∷ 11 ∷ 20 ∷ 12 ∷ 21 ∷ 13 ∷ 22 ∷ 0 ∷ 23 ∷ 2 ∷ 24 ∷ 3 ∷ 25 ∷ 4 ∷ 26 ∷ 5 ∷ 27 ∷ 6 ∷ 28 ∷ 7 ∷ 29 ∷ 8 ∷ 30 ∷ []) $
-        freed ! $ freed ! $ freed ! $ freed ! $ freed ! $ freed ! $ freed ! $ freed ! $ free1 ! $ free1 ! $ free1 ! $ free1 ! $ free0 ! $
+        move ! (14 ∷ 19 ∷ []) $ freed ! $ move ! (11 ∷ 18 ∷ []) $ freed ! $ move ! (11 ∷ 17 ∷ []) $ freed ! $
+        move ! (11 ∷ 16 ∷ []) $ freed ! $ move ! (0 ∷ 15 ∷ []) $ freed ! $ move ! (1 ∷ 14 ∷ []) $ freed ! $
+        move ! (1 ∷ 13 ∷ []) $ freed ! $ move ! (1 ∷ 12 ∷ []) $ freed ! $ move ! (1 ∷ 11 ∷ []) $ free1 ! $ move ! (1 ∷ 10 ∷ []) $ free1 ! $
+        move ! (1 ∷ 9 ∷ []) $ free1 ! $ move ! (1 ∷ 8 ∷ []) $ free1 ! $ free0 ! $
         -- the contract's fact, and what is had at the end: the tokens, then the three parameters and the answer
         keep ! (2 ∷ 3 ∷ 0 ∷ 1 ∷ 5 ∷ 6 ∷ []) $
         suffices ! _ (ends-at 𝓤 H A each.ended stayed (each.clauses 𝓤 H A mem run) W bound (t .v) (t .p)

@@ -147,8 +147,9 @@ module _ {M : Type 1} (𝓤 : URA M) (H : Heap 𝓤) (A : Atoms 𝓤) (W : Given
         move ! (0 ∷ 7 ∷ []) $ table-comes-back ! tt r is $
         -- the locals are let go, _0 first: [_4 0; true 1; the room's token 2; the answer 3; last bytes 4; the place 5; the route 6; _8 7]
         returns ! (look ! 22 refl) $
-        move ! (22 ∷ 23 ∷ 20 ∷ 21 ∷ 18 ∷ 19 ∷ 16 ∷ 17 ∷ 0 ∷ 15 ∷ 13 ∷ 14 ∷ 11 ∷ 12 ∷ 9 ∷ 10 ∷ 7 ∷ 8 ∷ []) $
-        freed ! $ freed ! $ freed ! $ freed ! $ freed ! $ freed ! $ freed ! $ freed ! $ freed ! $ free0 ! $
+        move ! (22 ∷ 23 ∷ []) $ freed ! $ move ! (20 ∷ 21 ∷ []) $ freed ! $ move ! (18 ∷ 19 ∷ []) $ freed ! $
+        move ! (16 ∷ 17 ∷ []) $ freed ! $ move ! (0 ∷ 15 ∷ []) $ freed ! $ move ! (12 ∷ 13 ∷ []) $ freed ! $
+        move ! (10 ∷ 11 ∷ []) $ freed ! $ move ! (8 ∷ 9 ∷ []) $ freed ! $ move ! (6 ∷ 7 ∷ []) $ freed ! $ free0 ! $
         -- the contract's fact, and what is had at the end: the token, then the three parameters and the answer
         suffices ! _ (ends-at 𝓤 H A one.ended stayed (one.clauses 𝓤 H A mem run) W bound v a
         (ws .0, (tt, (tt, tt))) (long, (tt, (tt, tt)))) $

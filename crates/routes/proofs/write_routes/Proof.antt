@@ -239,9 +239,10 @@ module _ {M : Type 1} (𝓤 : URA M) (H : Heap 𝓤) (A : Atoms 𝓤) (W : Given
         drop ! $ move ! (1 ∷ []) $ drop ! $ stores-answer ! r v (λ typed. lands-in ! 30 refl typed $
         -- the locals are let go, _0 first
         returns ! (look ! 30 refl) $
-        move ! (30 ∷ 31 ∷ 28 ∷ 29 ∷ 26 ∷ 27 ∷ 24 ∷ 25 ∷ 22 ∷ 23 ∷ 20 ∷ 21 ∷ 18 ∷ 19 ∷ 16 ∷ 17 ∷ 14 ∷ 15 ∷ 12 ∷ 13 ∷ 10 ∷ 11
-        ∷ 8 ∷ 9 ∷ 6 ∷ 7 ∷ []) $
-        freed ! $ freed ! $ freed ! $ freed ! $ freed ! $ freed ! $ freed ! $ freed ! $ freed ! $ freed ! $ freed ! $ freed ! $ freed ! $
+        move ! (30 ∷ 31 ∷ []) $ freed ! $ move ! (28 ∷ 29 ∷ []) $ freed ! $ move ! (26 ∷ 27 ∷ []) $ freed ! $
+        move ! (24 ∷ 25 ∷ []) $ freed ! $ move ! (22 ∷ 23 ∷ []) $ freed ! $ move ! (20 ∷ 21 ∷ []) $ freed ! $
+        move ! (18 ∷ 19 ∷ []) $ freed ! $ move ! (16 ∷ 17 ∷ []) $ freed ! $ move ! (14 ∷ 15 ∷ []) $ freed ! $
+        move ! (12 ∷ 13 ∷ []) $ freed ! $ move ! (10 ∷ 11 ∷ []) $ freed ! $ move ! (8 ∷ 9 ∷ []) $ freed ! $ move ! (6 ∷ 7 ∷ []) $ freed ! $
         free0 ! $
         -- the contract's fact, and what is had at the end: the tokens, then the three parameters and the answer
         suffices ! _ (ends-at 𝓤 H A write.ended stayed (write.clauses 𝓤 H A mem run) W bound v r
