@@ -5,4 +5,6 @@ pub mod Table
 pub mod BigEndian
 pub mod Signs
 pub mod Cells
+pub mod Least
+pub mod Folds
 pub mod Unique

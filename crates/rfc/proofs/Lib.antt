@@ -12,6 +12,7 @@ pub mod Sofar
 pub mod Typed
 pub mod Contents
 pub mod Written
+pub mod Routes
 pub mod Parts
 pub mod Readback
 pub mod Lists

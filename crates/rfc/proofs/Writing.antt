@@ -1,13 +1,14 @@
 -- The laws of `specs/Writing.antt`: the bytes of a value, and each writer by its checks.
 -- Assumes nothing.
-use mathlib.Core.Path.{_≡_, refl, ap, _∙_}
-use Prim.Native.Nat.{ℕ, _+_, _-_, _*_, _/_, _≤_, _<_}
+use mathlib.Core.Path.{_≡_, refl, sym, ap, _∙_}
+use Prim.Native.Nat.{ℕ, _+_, _-_, _*_, _/_, _≤_, _<_, min}
 use native.Mathlib.Omega.{arith}
 use mathlib.Core.List.{List, [], _∷_, _++_, flatten, append-nil}
-use lib.ListN.{length, take, drop, length-append, drop-of-length-le}
+use lib.ListN.{length, take, drop, length-append, length-take, drop-of-length-le}
 use lib.Seq.{take-all}
 use Rattle.facts.specs.Over.{over}
 use Rattle.facts.specs.Pieces.{pieces}
+use Rattle.facts.proofs.Least.{take-least, drop-least}
 use Rattle.facts.proofs.Pieces.{pieces-none, pieces-more, flatten-pieces, count-pieces}
 use Rattle.rfc.specs.Numbers.{Answer, given, refused, mostBytes, mostValue, mostPart, padCode, endCode, noRoom}
 use Rattle.rfc.specs.Writing.{partsOf, encode, Write, writeChecks, answerTo, roomLeft, roomAfter, writeSlice, writeBytes, close}
@@ -185,3 +186,12 @@ module _ (code : ℕ) (v room : List ℕ) (place : ℕ) where
               pub bytes-left : roomAfter (writeBytes code v room place) room place ≡ over room place (encode mostPart code v)
               unfolding writeBytes writeChecks
               bytes-left = given-left (writeBytes code v room place) room place _ bytes-given
+
+-- the next part by the number of its bytes, as code that counts them has it
+pub encode-next : (size : ℕ) → 0 < size → (code : ℕ) (v : List ℕ) (n : ℕ) → 0 < length v → n ≡ min size (length v)
+    → encode size code v ≡ code ∷ n ∷ (take n v ++ encode size code (drop n v))
+encode-next size some code v n h e =
+    let l : length (take size v) ≡ n = length-take size v ∙ sym e in
+    let t : take size v ≡ take n v = sym (ap (λ (k : ℕ). take k v) e ∙ take-least size v) in
+    let d : drop size v ≡ drop n v = sym (ap (λ (k : ℕ). drop k v) e ∙ drop-least size v) in
+    encode-more size some code v h ∙ (λ i. code ∷ l i ∷ (t i ++ encode size code (d i)))

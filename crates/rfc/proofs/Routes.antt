@@ -1,0 +1,105 @@
+-- The laws of `specs/Routes.antt`: the bytes of a route and of a table, which widths are too large, and the writer by its checks.
+-- Assumes nothing.
+use mathlib.Core.Path.{_≡_, refl, ap, sym, _∙_}
+use Prim.Native.Nat.{ℕ, _+_, _/_, _≤_, _<_, min}
+use mathlib.Core.Bool.{true, false}
+use mathlib.Core.List.{List, [], _∷_, _++_}
+use native.Mathlib.Omega.{arith}
+use lib.ListN.{length, take, length-append, length-take}
+use borrow.Author.Tests.{lt-ltb, le-ltb}
+use Rattle.facts.specs.BigEndian.{digits}
+use Rattle.facts.specs.Over.{over}
+use Rattle.facts.proofs.Least.{take-least}
+use Rattle.rfc.specs.Numbers.{given, refused, mostBytes, mostValue, mostPart}
+use Rattle.rfc.specs.Writing.{encode, writeChecks, answerTo, roomAfter}
+use Rattle.rfc.specs.Routes.{Route, routesCode, mostWidth, significant, routeBytes, routesBytes, tooWide, writeRoutes}
+use Rattle.rfc.proofs.Numbers.{here, later, refuses, done, next, clears}
+use Rattle.rfc.proofs.Numbers.{long, not-long, past, not-past, much, not-much, full, not-full}
+use Rattle.rfc.proofs.Writing.{given-left}
+
+pub significant-is : (width : ℕ) → significant width ≡ (width + 7) / 8
+unfolding significant
+significant-is width = refl
+
+-- an address has four bytes, so that no more are taken
+pub route-is : (r : Route) (n : ℕ) → n ≡ min 4 (significant (r .width))
+    → routeBytes r ≡ r .width ∷ (take n (digits 4 (r .destination)) ++ digits 4 (r .gateway))
+unfolding routeBytes
+route-is r n e =
+    let to : List ℕ = digits 4 (r .destination) in
+    let m : n ≡ min (significant (r .width)) 4 = omega arith in
+    let t : take n to ≡ take (significant (r .width)) to = ap (λ (k : ℕ). take k to) m ∙ take-least (significant (r .width)) to in
+    ap (λ (l : List ℕ). r .width ∷ (l ++ digits 4 (r .gateway))) (sym t)
+
+pub length-route : (r : Route) (n : ℕ) → n ≡ min 4 (significant (r .width)) → length (routeBytes r) ≡ 1 + n + 4
+length-route r n e =
+    let to : List ℕ = digits 4 (r .destination) in
+    omega (arith, ap length (route-is r n e), length-append (take n to) (digits 4 (r .gateway)), length-take n to)
+
+pub routes-none : routesBytes [] ≡ []
+unfolding routesBytes
+routes-none = refl
+
+pub routes-more : (r : Route) (rs : List Route) → routesBytes (r ∷ rs) ≡ routeBytes r ++ routesBytes rs
+unfolding routesBytes
+routes-more r rs = refl
+
+pub wide-none : tooWide [] ≡ false
+unfolding tooWide
+wide-none = refl
+
+pub wide-first : (r : Route) (rs : List Route) → mostWidth < r .width → tooWide (r ∷ rs) ≡ true
+unfolding tooWide
+wide-first r rs h = rw (lt-ltb mostWidth (r .width) h)
+
+pub wide-later : (r : Route) (rs : List Route) → r .width ≤ mostWidth → tooWide (r ∷ rs) ≡ tooWide rs
+unfolding tooWide
+wide-later r rs h = rw (le-ltb mostWidth (r .width) h)
+
+-- the writer, check by check
+module _ (rs : List Route) (room : List ℕ) (place : ℕ) where
+  abbrev value : List ℕ
+  value = routesBytes rs
+
+  pub routes-2 : mostBytes < length room → answerTo (writeRoutes rs room place) room place ≡ refused 2
+  unfolding answerTo writeRoutes writeChecks
+  routes-2 a = refuses _ (here (long room a))
+
+  module _ (a : length room ≤ mostBytes) where
+    pub routes-4 : length room < place → answerTo (writeRoutes rs room place) room place ≡ refused 4
+    unfolding answerTo writeRoutes writeChecks
+    routes-4 b = refuses _ (later (not-long room a) (here (past place room b)))
+
+    module _ (b : place ≤ length room) where
+      pub routes-12 : tooWide rs ≡ true → answerTo (writeRoutes rs room place) room place ≡ refused 12
+      unfolding answerTo writeRoutes writeChecks
+      routes-12 c = refuses _ (later (not-long room a) (later (not-past place room b) (here c)))
+
+      module _ (c : tooWide rs ≡ false) where
+        pub routes-7 : mostValue < length value → answerTo (writeRoutes rs room place) room place ≡ refused 7
+        unfolding answerTo writeRoutes writeChecks
+        routes-7 d = refuses _ (later (not-long room a) (later (not-past place room b) (later c (here (much value d)))))
+
+        module _ (d : length value ≤ mostValue) where
+          pub routes-8 : length room < place + length (encode mostPart routesCode value)
+              → answerTo (writeRoutes rs room place) room place ≡ refused 8
+          unfolding answerTo writeRoutes writeChecks
+          routes-8 e =
+              refuses _
+              (later (not-long room a)
+              (later (not-past place room b)
+              (later c (later (not-much value d) (here (full room place (encode mostPart routesCode value) e))))))
+
+          module _ (e : place + length (encode mostPart routesCode value) ≤ length room) where
+            pub routes-given : answerTo (writeRoutes rs room place) room place
+                ≡ given (place + length (encode mostPart routesCode value))
+            unfolding answerTo writeRoutes writeChecks
+            routes-given =
+                clears _
+                (next (not-long room a)
+                (next (not-past place room b)
+                (next c (next (not-much value d) (next (not-full room place (encode mostPart routesCode value) e) done)))))
+
+            pub routes-left : roomAfter (writeRoutes rs room place) room place ≡ over room place (encode mostPart routesCode value)
+            unfolding writeRoutes
+            routes-left = given-left (writeRoutes rs room place) room place _ routes-given

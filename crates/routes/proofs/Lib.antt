@@ -1,0 +1,8 @@
+pub mod Passes
+pub mod Puts
+pub mod Rows
+pub mod Together
+pub mod Values
+pub mod Lending
+pub mod Arrays
+pub mod Unique

@@ -1,0 +1,38 @@
+-- `add` meets its contract: a law of `added` for each return.
+-- Assumes nothing.
+use mathlib.Core.Path.{sym}
+use borrow.Author.Needs.{needs}
+use Rattle.routes.proofs.Passes.{added-outside, added-full, added-byte}
+use Rattle.routes.proofs.add.Statement.{statement}
+use Rattle.routes.proofs.add.Tie as tie
+
+returns : tie.Need-returns
+returns c =
+    let a = c .before .before .args in
+    sym (added-outside (a .pass) (a .room .now) (a .byte) (c .if1 .taken))
+
+returns-2 : tie.Need-returns-2
+returns-2 c =
+    let a = c .before .before .before .args in
+    sym (added-full (a .pass) (a .room .now) (a .byte) (c .before .if1 .left) (c .if2 .taken))
+
+slice-write-room : tie.Need-slice-write-room
+slice-write-room c = search needs
+
+add-pass : tie.Need-add-pass
+add-pass c = search needs
+
+sub-pass : tie.Need-sub-pass
+sub-pass c = search needs
+
+same-length : tie.Need-same-length
+same-length c = search needs
+
+returns-3 : tie.Need-returns-3
+returns-3 c =
+    let a = c .before .before .before .before .args in
+    sym (added-byte (a .pass) (a .room .now) (a .byte) (c .before .before .if1 .left) (c .before .if2 .left))
+
+pub add-spec : {M : Type 1} → statement M
+add-spec =
+    tie.close (tie.spec returns returns-2 slice-write-room add-pass sub-pass same-length returns-3)

@@ -1,0 +1,41 @@
+-- `one` meets its contract: a law of `passed` for each return.
+-- Assumes nothing.
+use mathlib.Core.Path.{sym, ap, _∙_}
+use borrow.Author.Needs.{needs}
+use Rattle.routes.specs.declared.Pass.{Pass}
+use Rattle.routes.proofs.Passes.{passed-refused, passed-writing, passed-measuring}
+use Rattle.routes.proofs.one.Statement.{statement}
+use Rattle.routes.proofs.one.Tie as tie
+
+returns : tie.Need-returns
+returns c =
+    let a = c .before .before .before .args in
+    sym (passed-refused (a .pass, a .room .now) (a .route) (c .if1 .taken))
+
+put-route-requires : tie.Need-put-route-requires
+put-route-requires c κs = search needs
+
+same-length : tie.Need-same-length
+same-length c = search needs
+
+returns-2 : tie.Need-returns-2
+returns-2 c =
+    let wrote = c .before .before in
+    let tested = wrote .before .before in
+    let a = tested .before .before .before .before .args in
+    wrote .put-route .ensures
+    ∙ sym (passed-writing (a .pass, a .room .now) (a .route) (tested .before .if1 .left) (tested .if2 .taken))
+
+measure-requires : tie.Need-measure-requires
+measure-requires c κs = search needs
+
+returns-3 : tie.Need-returns-3
+returns-3 c =
+    let tested = c .before in
+    let a = tested .before .before .before .before .args in
+    ap (λ (p : Pass). (p, a .room .now)) (c .measure .ensures)
+    ∙ sym (passed-measuring (a .pass, a .room .now) (a .route) (tested .before .if1 .left) (tested .if2 .left))
+
+pub one-spec : {M : Type 1} → statement M
+one-spec =
+    tie.close (tie.spec returns put-route-requires same-length returns-2 measure-requires returns-3)

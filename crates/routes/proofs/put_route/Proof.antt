@@ -1,0 +1,54 @@
+-- `put_route` meets its contract: its three calls put the bytes of a route, one behind the other.
+-- Assumes nothing.
+use mathlib.Core.Path.{sym, ap, _∙_}
+use Prim.Native.Nat.{ℕ}
+use mathlib.Core.List.{List, foldl, foldl-append}
+use native.Mathlib.Omega.{arith}
+use lib.ListN.{take}
+use borrow.Author.Needs.{needs}
+use Rattle.facts.specs.BigEndian.{digits}
+use Rattle.rfc.proofs.Routes.{route-is}
+use Rattle.routes.specs.Rows.{rowOf}
+use Rattle.routes.specs.Passes.{State, put}
+use Rattle.routes.proofs.put_route.Statement.{statement}
+use Rattle.routes.proofs.put_route.Tie as tie
+
+significant-requires : tie.Need-significant-requires
+significant-requires c κs = search needs
+
+put-next-requires : tie.Need-put-next-requires
+put-next-requires c κs = search needs
+
+put-address-requires : tie.Need-put-address-requires
+put-address-requires c κs = omega arith
+
+put-address-requires-2 : tie.Need-put-address-requires-2
+put-address-requires-2 c κs = search needs
+
+same-length : tie.Need-same-length
+same-length c = search needs
+
+returns : tie.Need-returns
+returns c =
+    let gateway = c .before .before in
+    let destination = gateway .before .before .before .before in
+    let width = destination .before .before .before .before in
+    let n = width .before .before .significant in
+    let a = width .before .before .before .before .args in
+    let to : List ℕ = take (n .result) (digits 4 (a .route .destination)) in
+    let by : List ℕ = digits 4 (a .route .gateway) in
+    gateway .put-address2 .ensures
+    ∙ ap (λ (d : State). foldl put d by) (destination .put-address .ensures ∙ ap (λ (d : State). foldl put d to) (width .put-next .ensures))
+    ∙ sym (foldl-append put (put (a .pass, a .room .now) (a .route .width)) to by)
+    ∙ ap (foldl put (a .pass, a .room .now)) (sym (route-is (rowOf (a .route)) (n .result) (n .ensures)))
+
+pub put-route-spec : {M : Type 1} → statement M
+put-route-spec =
+    tie.close
+    (tie.spec
+    significant-requires
+    put-next-requires
+    put-address-requires
+    put-address-requires-2
+    same-length
+    returns)

@@ -1,0 +1,53 @@
+-- `turn_over` meets its contract: a law of `turned` for each return.
+-- Assumes nothing.
+use mathlib.Core.Path.{sym}
+use native.Mathlib.Omega.{arith}
+use borrow.Author.Needs.{needs}
+use Rattle.routes.proofs.Passes.{turned-refused, turned-7, turned-8, turned-second}
+use Rattle.routes.proofs.turn_over.Statement.{statement}
+use Rattle.routes.proofs.turn_over.Tie as tie
+
+returns : tie.Need-returns
+returns c =
+    let a = c .before .before .args in
+    sym (turned-refused (a .pass) (a .n) (c .if1 .taken))
+
+returns-2 : tie.Need-returns-2
+returns-2 c =
+    let a = c .before .before .before .args in
+    sym (turned-7 (a .pass) (a .n) (c .before .if1 .left) (c .if2 .taken))
+
+returns-3 : tie.Need-returns-3
+returns-3 c =
+    let fits = c .before .before in
+    let a = fits .before .before .before .args in
+    sym (turned-8 (a .pass) (a .n) (fits .before .if1 .left) (fits .if2 .left) (omega arith))
+
+sub-if4 : tie.Need-sub-if4
+sub-if4 c = search needs
+
+add-if4 : tie.Need-add-if4
+add-if4 c = search needs
+
+mul-if4 : tie.Need-mul-if4
+mul-if4 c = search needs
+
+add-if4-2 : tie.Need-add-if4-2
+add-if4-2 c = search needs
+
+returns-4 : tie.Need-returns-4
+returns-4 c =
+    let fits = c .before .before .before .before in
+    let a = fits .before .before .before .args in
+    sym (turned-8 (a .pass) (a .n) (fits .before .if1 .left) (fits .if2 .left) (omega arith))
+
+returns-5 : tie.Need-returns-5
+returns-5 c =
+    let fits = c .before .before .before .before in
+    let a = fits .before .before .before .args in
+    sym (turned-second (a .pass) (a .n) (fits .before .if1 .left) (fits .if2 .left) (omega arith))
+
+pub turn-over-spec : {M : Type 1} → statement M
+turn-over-spec =
+    tie.close
+    (tie.spec returns returns-2 returns-3 sub-if4 add-if4 mul-if4 add-if4-2 returns-4 returns-5)
