@@ -11,11 +11,10 @@ const TEN: u32 = 167772160;
 
 fn main() {
     tell_sizes();
-    let mut room = [0u8; 64];
-    tell_numbers(&mut room);
-    tell_others(&mut room);
-    tell_lists(&mut room);
-    tell_routes(&mut room);
+    tell_numbers();
+    tell_others();
+    tell_lists();
+    tell_routes();
 }
 
 // Byte values around one part and around the most bytes, and addresses as addresses and as a byte value.
@@ -37,62 +36,66 @@ fn tell_sizes() {
     say_size(b"508 bytes", &room, bytes);
 }
 
-fn tell_numbers(room: &mut [u8]) {
-    let address = typed::write_address(room, 0, 1, GATEWAY);
-    say_bytes(b"address", room, address);
-    let byte = typed::write_byte(room, 0, 23, 64);
-    say_bytes(b"byte", room, byte);
-    let yes = typed::write_yes_no(room, 0, 19, true);
-    say_bytes(b"yes", room, yes);
-    let no = typed::write_yes_no(room, 0, 19, false);
-    say_bytes(b"no", room, no);
-    let short = typed::write_u16(room, 0, 57, 1500);
-    say_bytes(b"u16", room, short);
-    let long = typed::write_u32(room, 0, 51, 86400);
-    say_bytes(b"u32", room, long);
-    let seconds = typed::write_i32(room, 0, 2, -3600);
-    say_bytes(b"i32", room, seconds);
+fn tell_numbers() {
+    let mut room = [0u8; 64];
+    let address = typed::write_address(&mut room, 0, 1, GATEWAY);
+    say_bytes(b"address", &room, address);
+    let byte = typed::write_byte(&mut room, 0, 23, 64);
+    say_bytes(b"byte", &room, byte);
+    let yes = typed::write_yes_no(&mut room, 0, 19, true);
+    say_bytes(b"yes", &room, yes);
+    let no = typed::write_yes_no(&mut room, 0, 19, false);
+    say_bytes(b"no", &room, no);
+    let short = typed::write_u16(&mut room, 0, 57, 1500);
+    say_bytes(b"u16", &room, short);
+    let long = typed::write_u32(&mut room, 0, 51, 86400);
+    say_bytes(b"u32", &room, long);
+    let seconds = typed::write_i32(&mut room, 0, 2, -3600);
+    say_bytes(b"i32", &room, seconds);
 }
 
-fn tell_others(room: &mut [u8]) {
-    let text = typed::write_text(room, 0, 12, b"host");
-    say_bytes(b"text", room, text);
-    let other = typed::write_text(room, 0, 12, &[255]);
-    say_bytes(b"text that is not UTF-8", room, other);
-    let node = typed::write_node_type(room, 0, 46, Node::H);
-    say_bytes(b"node type", room, node);
-    let message = typed::write_message_type(room, 0, 53, 5);
-    say_bytes(b"message type", room, message);
-    let three = typed::write_three_bytes(room, 0, 94, 1, 2, 1);
-    say_bytes(b"three bytes", room, three);
-    let flag = typed::write_flag(room, 0, 80);
-    say_bytes(b"flag", room, flag);
-    let kind = typed::write_flag(room, 0, 81);
-    say_bytes(b"flag to a code of another kind", room, kind);
+fn tell_others() {
+    let mut room = [0u8; 64];
+    let text = typed::write_text(&mut room, 0, 12, b"host");
+    say_bytes(b"text", &room, text);
+    let other = typed::write_text(&mut room, 0, 12, &[255]);
+    say_bytes(b"text that is not UTF-8", &room, other);
+    let node = typed::write_node_type(&mut room, 0, 46, Node::H);
+    say_bytes(b"node type", &room, node);
+    let message = typed::write_message_type(&mut room, 0, 53, 5);
+    say_bytes(b"message type", &room, message);
+    let three = typed::write_three_bytes(&mut room, 0, 94, 1, 2, 1);
+    say_bytes(b"three bytes", &room, three);
+    let flag = typed::write_flag(&mut room, 0, 80);
+    say_bytes(b"flag", &room, flag);
+    let kind = typed::write_flag(&mut room, 0, 81);
+    say_bytes(b"flag to a code of another kind", &room, kind);
 }
 
-fn tell_lists(room: &mut [u8]) {
-    let addresses = typed::lists::write_addresses(room, 0, 6, &[GATEWAY, TEN]);
-    say_bytes(b"addresses", room, addresses);
-    let pairs = typed::lists::write_pairs(room, 0, 33, &[TEN, GATEWAY]);
-    say_bytes(b"pairs", room, pairs);
-    let odd = typed::lists::write_pairs(room, 0, 33, &[TEN, GATEWAY, TEN]);
-    say_bytes(b"three addresses as pairs", room, odd);
-    let sizes = typed::lists::write_u16s(room, 0, 25, &[68, 1500]);
-    say_bytes(b"u16s", room, sizes);
-    let codes = typed::lists::write_codes(room, 0, 55, &[1, 3, 6, 121]);
-    say_bytes(b"codes", room, codes);
-    let none = typed::lists::write_codes(room, 0, 55, &[]);
-    say_bytes(b"no codes", room, none);
+fn tell_lists() {
+    let mut room = [0u8; 64];
+    let addresses = typed::lists::write_addresses(&mut room, 0, 6, &[GATEWAY, TEN]);
+    say_bytes(b"addresses", &room, addresses);
+    let pairs = typed::lists::write_pairs(&mut room, 0, 33, &[TEN, GATEWAY]);
+    say_bytes(b"pairs", &room, pairs);
+    let odd = typed::lists::write_pairs(&mut room, 0, 33, &[TEN, GATEWAY, TEN]);
+    say_bytes(b"three addresses as pairs", &room, odd);
+    let sizes = typed::lists::write_u16s(&mut room, 0, 25, &[68, 1500]);
+    say_bytes(b"u16s", &room, sizes);
+    let codes = typed::lists::write_codes(&mut room, 0, 55, &[1, 3, 6, 121]);
+    say_bytes(b"codes", &room, codes);
+    let none = typed::lists::write_codes(&mut room, 0, 55, &[]);
+    say_bytes(b"no codes", &room, none);
 }
 
-fn tell_routes(room: &mut [u8]) {
-    let eight = routes::write_route(room, 0, route(8, TEN));
-    say_bytes(b"10.0.0.0/8", room, eight);
-    let all = routes::write_route(room, 0, route(0, 0));
-    say_bytes(b"0.0.0.0/0", room, all);
-    let wide = routes::write_route(room, 0, route(33, TEN));
-    say_bytes(b"width 33", room, wide);
+fn tell_routes() {
+    let mut room = [0u8; 64];
+    let eight = routes::write_route(&mut room, 0, route(8, TEN));
+    say_bytes(b"10.0.0.0/8", &room, eight);
+    let all = routes::write_route(&mut room, 0, route(0, 0));
+    say_bytes(b"0.0.0.0/0", &room, all);
+    let wide = routes::write_route(&mut room, 0, route(33, TEN));
+    say_bytes(b"width 33", &room, wide);
 }
 
 fn route(width: u8, destination: u32) -> Route {
@@ -142,10 +145,14 @@ fn say_bytes(name: &[u8], room: &[u8], written: Written) {
 fn say_all(bytes: &[u8]) {
     let mut i: usize = 0;
     while i < bytes.len() {
-        io::write_all(1, b" ");
-        io::print_decimal(1, bytes[i] as u64);
+        say_byte(bytes[i]);
         i += 1;
     }
+}
+
+fn say_byte(byte: u8) {
+    io::write_all(1, b" ");
+    io::print_decimal(1, byte as u64);
 }
 
 fn say_refused(number: u8) {
