@@ -19,7 +19,8 @@ pub enum Written {
 
 // Writes `bytes` at `place` as they stand. The room may be any buffer, of any size.
 pub fn write_slice(room: &mut [u8], place: usize, bytes: &[u8]) -> Written
-    ensures { λ r. ⌜ Wrote (writeSlice (now (bytes .entry)) (now (room .entry)) place) (now (room .entry)) (now (room .exit)) place r ⌝ }
+    ensures { λ r. ⌜ Wrote (writeSlice (now (bytes .entry)) (now (room .entry)) place)
+        (now (room .entry)) (now (room .exit)) place r ⌝ }
 {
     if place > room.len() {
         return Written::Refused(4);
@@ -34,7 +35,8 @@ pub fn write_slice(room: &mut [u8], place: usize, bytes: &[u8]) -> Written
 
 // Writes numbers at `place`, two bytes each, the highest first.
 pub fn write_u16s(room: &mut [u8], place: usize, numbers: &[u16]) -> Written
-    ensures { λ r. ⌜ Wrote (writeSlice (digitsOf 2 (now (numbers .entry))) (now (room .entry)) place) (now (room .entry)) (now (room .exit)) place r ⌝ }
+    ensures { λ r. ⌜ Wrote (writeSlice (digitsOf 2 (now (numbers .entry))) (now (room .entry)) place)
+        (now (room .entry)) (now (room .exit)) place r ⌝ }
 {
     if place > room.len() {
         return Written::Refused(4);
@@ -49,7 +51,8 @@ pub fn write_u16s(room: &mut [u8], place: usize, numbers: &[u16]) -> Written
 
 // Writes numbers at `place`, four bytes each, the highest first.
 pub fn write_u32s(room: &mut [u8], place: usize, numbers: &[u32]) -> Written
-    ensures { λ r. ⌜ Wrote (writeSlice (digitsOf 4 (now (numbers .entry))) (now (room .entry)) place) (now (room .entry)) (now (room .exit)) place r ⌝ }
+    ensures { λ r. ⌜ Wrote (writeSlice (digitsOf 4 (now (numbers .entry))) (now (room .entry)) place)
+        (now (room .entry)) (now (room .exit)) place r ⌝ }
 {
     if place > room.len() {
         return Written::Refused(4);

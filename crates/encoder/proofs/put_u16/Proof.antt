@@ -1,12 +1,12 @@
 -- `put_u16` meets its contract: stores one behind the other are one write.
 -- Assumes nothing.
 use mathlib.Core.Path.{ap, _∙_}
-use Prim.Native.Nat.{ℕ, _+_}
-use mathlib.Core.List.{List}
+use Prim.Native.Nat.{ℕ}
+use mathlib.Core.List.{List, [], _∷_}
 use native.Mathlib.Omega.{arith}
-use lib.ListN.{set, getD, length-set}
+use lib.ListN.{getD, length-set}
 use Rattle.facts.specs.BigEndian.{digits}
-use Rattle.facts.proofs.Cells.{stores-over}
+use Rattle.facts.proofs.Cells.{stores, stores-over}
 use borrow.Author.Needs.{needs}
 use Rattle.encoder.proofs.put_u16.Statement.{statement}
 use Rattle.encoder.proofs.put_u16.Tie as tie
@@ -35,7 +35,7 @@ same-length c = search needs
 returns : tie.Need-returns
 returns c =
     let a = c .before .before .args in
-    ap (λ (bytes : List ℕ). set (set (a .room .now) (a .at) (getD bytes 0 0)) (a .at + 1) (getD bytes 1 0)) (c .u16-bytes .ensures)
+    ap (λ (bytes : List ℕ). stores (a .room .now) (a .at) (getD bytes 0 0 ∷ getD bytes 1 0 ∷ [])) (c .u16-bytes .ensures)
     ∙ stores-over (a .room .now) (a .at) (digits 2 (a .number)) (omega arith)
 
 pub put-u16-spec : {M : Type 1} → statement M

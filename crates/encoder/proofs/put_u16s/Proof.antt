@@ -14,7 +14,8 @@ abbrev μ-loop : tie.MeasureT-loop
 μ-loop room₀ place numbers i₀ room i = length numbers - i
 
 -- the next number is among those that are to be put
-fits : (c : tie.In-loop Inv-loop μ-loop) → 2 * c .before .loop .i + 2 ≤ 2 * length (c .before .before .before .before .args .numbers .now)
+fits : (c : tie.In-loop Inv-loop μ-loop)
+    → 2 * c .before .loop .i + 2 ≤ 2 * length (c .before .before .before .before .args .numbers .now)
 fits c = put-fits 2 (c .before .loop .inv) (c .loop-test .taken)
 
 loop-holds : tie.Need-loop-holds Inv-loop μ-loop

@@ -1,12 +1,12 @@
 -- `put_u32` meets its contract: stores one behind the other are one write.
 -- Assumes nothing.
 use mathlib.Core.Path.{ap, _∙_}
-use Prim.Native.Nat.{ℕ, _+_}
-use mathlib.Core.List.{List}
+use Prim.Native.Nat.{ℕ}
+use mathlib.Core.List.{List, [], _∷_}
 use native.Mathlib.Omega.{arith}
-use lib.ListN.{set, getD, length-set}
+use lib.ListN.{getD, length-set}
 use Rattle.facts.specs.BigEndian.{digits}
-use Rattle.facts.proofs.Cells.{stores-over}
+use Rattle.facts.proofs.Cells.{stores, stores-over}
 use borrow.Author.Needs.{needs}
 use Rattle.encoder.proofs.put_u32.Statement.{statement}
 use Rattle.encoder.proofs.put_u32.Tie as tie
@@ -53,7 +53,7 @@ same-length c = search needs
 returns : tie.Need-returns
 returns c =
     let a = c .before .before .args in
-    ap (λ (bytes : List ℕ). set (set (set (set (a .room .now) (a .at) (getD bytes 0 0)) (a .at + 1) (getD bytes 1 0)) (a .at + 2) (getD bytes 2 0)) (a .at + 3) (getD bytes 3 0)) (c .u32-bytes .ensures)
+    ap (λ (bytes : List ℕ). stores (a .room .now) (a .at) (getD bytes 0 0 ∷ getD bytes 1 0 ∷ getD bytes 2 0 ∷ getD bytes 3 0 ∷ [])) (c .u32-bytes .ensures)
     ∙ stores-over (a .room .now) (a .at) (digits 4 (a .number)) (omega arith)
 
 pub put-u32-spec : {M : Type 1} → statement M
