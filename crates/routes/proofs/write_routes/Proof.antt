@@ -25,12 +25,11 @@ use types.Run.{enter, alloc1, alloc0, params1, pass1, pass0, free0}
 use types.Part.{agg, whole, sub, look-in}
 use sound.WpLaws.{FmC, fmOf, WpFn-mono}
 use denote.RattleType.{owns}
-use denote.Laws.{Is}
-use denote.Plain.{uint-vals, uint-tells, uint-makes}
+use denote.Plain.{uint-vals, uint-tells}
 use denote.Builtin.{u8, usize}
 use denote.Ref.{RefT}
 use denote.Slice.{slice-vals, MutSlice, ShrSlice, Room, mut-slice-tells, shr-slice-tells}
-use denote.Steps.{owned, nothing}
+use denote.Steps.{nothing}
 use denote.Signature.{plain}
 use denote.Triple.Entry.{onEntry}
 use denote.Triple.Spec.{Meets, tripleOf}
@@ -40,13 +39,14 @@ use denote.Triple.Walked.{Stays, stay-none, stay-none-slice, stay-slice, goes-no
 use denote.Triple.Walked.{walkOf, walked, ends-at, says, walk-meets}
 use denote.Exit.{yes}
 use Rattle.encoder.specs.Written.{says as said}
-use Rattle.lent.proofs.Steps.{var, two, three, sets, lands-in, calls, freed}
+use Rattle.facts.proofs.Steps.{var, two, three, sets, lands-in, calls, freed}
+use Rattle.facts.proofs.Values.{sliceOf, slice-typed, Slice, keeps-slice, has-usize}
+use Rattle.facts.proofs.Lending.{roomAt, Lent, Kept, lends-room, room-comes-back}
 use Rattle.routes.specs.Passes.{State, begun, turned, passed, answered}
 use Rattle.routes.specs.declared.Pass.{Pass}
 use Rattle.routes.specs.declared.Route.{Route}
 use Rattle.routes.proofs.Together.{both-passes}
-use Rattle.routes.proofs.Values.{sliceOf, slice-typed, Table, keeps-table, Holds, stores-pass, stores-answer}
-use Rattle.routes.proofs.Lending.{roomAt, Lent, Kept, lends-room, room-comes-back}
+use Rattle.routes.proofs.Values.{Holds, stores-pass, stores-answer}
 use Rattle.routes.proofs.Pass as P
 use Rattle.routes.proofs.Route.{the-row as R}
 use Rattle.routes.proofs.begin as begin
@@ -115,8 +115,8 @@ module _ {M : Type 1} (𝓤 : URA M) (H : Heap 𝓤) (A : Atoms 𝓤) (W : Given
 
   asked-begin : n < 2 ^ 64 → ent 𝓤 (sem 𝓤 H A ftrue) (Begins 𝓤 H A mem run .pre to-begin)
   asked-begin long =
-      qed W (‵ ftrue ∷ []) ∵ owned ! usize (Is usize) (uint-makes 𝓤 H A W w64) place _ (refl, fits) $ fjoin ! $
-      owned ! usize (Is usize) (uint-makes 𝓤 H A W w64) n _ (refl, long) $ fjoin ! $ nothing ! $ join ! $ frame ! $ done !
+      qed W (‵ ftrue ∷ []) ∵ has-usize ! place fits $ fjoin ! $
+      has-usize ! n long $ fjoin ! $ nothing ! $ join ! $ frame ! $ done !
 
   -- `turn_over` on a state and the room's length
   abbrev to-turn : Pass → Val → Turns 𝓤 H A mem run .Ghost
@@ -124,7 +124,7 @@ module _ {M : Type 1} (𝓤 : URA M) (H : Heap 𝓤) (A : Atoms 𝓤) (W : Given
 
   asked-turn : n < 2 ^ 64 → (p : Pass) (v : Val) → ent 𝓤 (sem 𝓤 H A (Holds p v)) (Turns 𝓤 H A mem run .pre (to-turn p v))
   asked-turn long p v =
-      qed W (‵ (Holds p v) ∷ []) ∵ nothing ! $ owned ! usize (Is usize) (uint-makes 𝓤 H A W w64) n _ (refl, long) $ fjoin ! $
+      qed W (‵ (Holds p v) ∷ []) ∵ nothing ! $ has-usize ! n long $ fjoin ! $
       move ! (1 ∷ 0 ∷ []) $ fjoin ! $ nothing ! $ join ! $ frame ! $ done !
 
   -- `answer` on a state
@@ -173,7 +173,7 @@ module _ {M : Type 1} (𝓤 : URA M) (H : Heap 𝓤) (A : Atoms 𝓤) (W : Given
           → ((v′ : Val) (p′ : Pass) (l′ : List ℕ) → length l′ ≡ n → (p′, l′) ≡ foldl passed (p, l) (xt .now)
           → Seq K W (‵ (Holds p′ v′) ∷ ‵ (Lent xr κr (xr .name) l′) ∷ ‵ (flft κr qr) ∷ ‵ (flft κt qt) ∷ Γ) (lands C Λ E d v′ rest q))
           → Seq K W
-          (‵ (Lent xr κr (xr .name) l) ∷ ‵ (flft κr qr) ∷ ‵ (flft κt qt) ∷ ‵ (Holds p v) ∷ ‵ (Table (named 1) κt xt) ∷ Γ)
+          (‵ (Lent xr κr (xr .name) l) ∷ ‵ (flft κr qr) ∷ ‵ (flft κt qt) ∷ ‵ (Holds p v) ∷ ‵ (Slice R (named 1) κt xt) ∷ Γ)
           (runs C Λ E (seq (call #routes·each xs d) rest) q)
       goes-over os k =
           lends-room t tt xr l same (λ ν γ.
@@ -205,7 +205,7 @@ module _ {M : Type 1} (𝓤 : URA M) (H : Heap 𝓤) (A : Atoms 𝓤) (W : Given
         16 refl (tt, record { fits = room-r .0 }) $
         -- the table is had three times, for two passes and the end
         move ! (27 ∷ []) $ fsplit ! $ move ! (1 ∷ []) $ fsplit ! $ move ! (1 ∷ []) $ fsplit ! $
-        keeps-table ! (named 1) κt xt $ keeps-table ! (named 1) κt xt $
+        keeps-slice ! R (named 1) κt xt $ keeps-slice ! R (named 1) κt xt $
         -- [the table 0 1 2; true 3; the place 4; the room 5; _12 6; …; the tokens 32]
         move ! (32 ∷ []) $ split ! $ move ! (1 ∷ []) $ split ! $ move ! (1 ∷ 6 ∷ []) $ drop ! $ drop ! $ move ! (6 ∷ 1 ∷ []) $
         -- `begin`: [the room 0; its token 1; the table's token 2; the table 3 4 5; the place 6; _12 7; …; _0 31]
