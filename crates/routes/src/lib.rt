@@ -24,6 +24,9 @@ const MOST_WIDTH: u8 = 32;
 // The bytes of an address.
 const ADDRESS: usize = 4;
 
+// What the highest of them counts.
+const HIGHEST: u32 = 16777216;
+
 // A route: the width of its subnet mask, its destination and its gateway.
 pub struct Route {
     pub width: u8,
@@ -184,7 +187,7 @@ fn put_route(room: &mut [u8], pass: Pass, route: Route) -> Pass
     put_address(room, past_destination, route.gateway, ADDRESS)
 }
 
-// Puts the first `n` of an address's four bytes, the highest first.
+// Puts the first `n` of an address's four bytes, the highest first. `rest` has those that are left at its top.
 fn put_address(room: &mut [u8], start: Pass, address: u32, n: usize) -> Pass
     requires { ⌜ n ≤ 4 ⌝ }
     ensures { λ r. ⌜ (r, now (room .exit)) ≡ foldl put (start, now (room .entry)) (take n (digits 4 address)) ⌝ }
@@ -193,8 +196,8 @@ fn put_address(room: &mut [u8], start: Pass, address: u32, n: usize) -> Pass
     let mut rest = address;
     let mut i: usize = 0;
     while i < n {
-        pass = put_next(room, pass, (rest / 16777216) as u8);
-        rest = rest % 16777216 * 256;
+        pass = put_next(room, pass, (rest / HIGHEST) as u8);
+        rest = rest % HIGHEST * 256;
         i += 1;
     }
     pass
