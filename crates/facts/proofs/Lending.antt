@@ -17,7 +17,8 @@ use base.Logic.{ent, sep, ex}
 use base.Fml.{Lft, GName, Share, Fml, fsep, fat, flft, fdead, fobs, fauth, flent, fobor}
 use prog.Wp.{Heap}
 use ghost.Atoms.{Atoms, sem}
-use types.Kit.{Goal, Soaks, Given, Item, ‵, _⊛_, some, later, Seq, Step, step, _$_, _∵_, !, qed, move, keep, use1, use2, use3, drop, split, pick}
+use types.Kit.{Goal, Soaks, Given, Item, ‵, _⊛_, some, later, Seq, Step, step, _$_, _∵_, !, qed}
+use types.Kit.{move, keep, use1, use2, use3, drop, split, pick}
 use types.Kit.{rewrite, fsplit, fjoin, frame, fpick, fpack, await, updating, now as at-once, show, done}
 use types.SemTy.{cells, Arr}
 use types.Tokens.{lft-new, lft-end}
