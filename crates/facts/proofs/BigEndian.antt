@@ -2,12 +2,12 @@
 -- Assumes nothing.
 use mathlib.Core.Path.{_≡_, refl, _∙_, ap, sym, subst}
 use mathlib.Core.List.{List, [], _∷_}
-use Prim.Native.Nat.{ℕ, zero, suc, _+_, _*_, _/_, _%_, _^_, _<_}
+use Prim.Native.Nat.{ℕ, zero, suc, _+_, _*_, _/_, _%_, _^_, _≤_, _<_}
 use native.Mathlib.Nat.{pow-succ', add-mul, mul-assoc, add-assoc, mod-eq-of-lt}
 use native.Mathlib.Omega.{arith}
 use lib.Arith.{mod-mul, digits-lt, digits-div, digits-mod}
 use lib.Dec.{lit<}
-use lib.ListN.{length, getD}
+use lib.ListN.{length, getD, take}
 use Rattle.facts.specs.BigEndian.{number, numberFrom, digits}
 
 -- every element is a byte, as what owning a `&[u8]` tells
@@ -68,3 +68,23 @@ writes-back h (x ∷ xs) b =
 -- one below 256 ^ w is the number of its w bytes
 pub number-digits : (w n : ℕ) → n < 256 ^ w → number (digits w n) ≡ n
 number-digits w n h = reads-back w 0 n ∙ omega (arith, mod-eq-of-lt h)
+
+-- the first bytes of four: the highest, and then those of what is left when that is taken off at the top
+pub next-of-four : (n k : ℕ) → k ≤ 3 → take (suc k) (digits 4 n) ≡ n / 16777216 % 256 ∷ take k (digits 4 (n % 16777216 * 256))
+next-of-four n zero h = refl
+next-of-four n (suc zero) h =
+    let r : ℕ = n % 16777216 * 256 in
+    let b : n / 65536 % 256 ≡ r / 16777216 % 256 = omega arith in
+    ap (λ (x : ℕ). n / 16777216 % 256 ∷ x ∷ []) b
+next-of-four n (suc (suc zero)) h =
+    let r : ℕ = n % 16777216 * 256 in
+    let b : n / 65536 % 256 ≡ r / 16777216 % 256 = omega arith in
+    let c : n / 256 % 256 ≡ r / 65536 % 256 = omega arith in
+    λ i. n / 16777216 % 256 ∷ b i ∷ c i ∷ []
+next-of-four n (suc (suc (suc zero))) h =
+    let r : ℕ = n % 16777216 * 256 in
+    let b : n / 65536 % 256 ≡ r / 16777216 % 256 = omega arith in
+    let c : n / 256 % 256 ≡ r / 65536 % 256 = omega arith in
+    let d : n / 1 % 256 ≡ r / 256 % 256 = omega arith in
+    λ i. n / 16777216 % 256 ∷ b i ∷ c i ∷ d i ∷ []
+next-of-four n (suc (suc (suc (suc k)))) h = absurd (let f : ⊥ = omega arith in f)

@@ -7,4 +7,7 @@ pub mod Signs
 pub mod Cells
 pub mod Least
 pub mod Folds
+pub mod Steps
+pub mod Values
+pub mod Lending
 pub mod Unique

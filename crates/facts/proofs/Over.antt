@@ -94,10 +94,3 @@ copy-turn d at s n h g =
     let l : length (take n s) ≡ n = length-take-le n s (omega arith) in
     set-over (over d at (take n s)) (at + n) (getD s n 0) (omega (arith, length-over d at (take n s) (omega arith)))
     ∙ over-next d at s (getD s n 0 ∷ []) n (omega arith) (omega arith) (rw (drop-cons s n 0 g))
-
--- two stores side by side are a write of two elements
-pub set-set-over : (d : List ℕ) (at a b : ℕ) → at + 2 ≤ length d → set (set d at a) (at + 1) b ≡ over d at (a ∷ b ∷ [])
-set-set-over d at a b h =
-    ap (λ (x : List ℕ). set x (at + 1) b) (set-over d at a (omega arith))
-    ∙ set-over (over d at (a ∷ [])) (at + 1) b (omega (arith, length-over d at (a ∷ []) (omega arith)))
-    ∙ over-over d at (a ∷ []) (b ∷ []) (omega arith)

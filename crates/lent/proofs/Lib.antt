@@ -1,4 +1,3 @@
-pub mod Steps
 pub mod Values
 pub mod Lending
 pub mod Moves

@@ -3,15 +3,14 @@
 use mathlib.Core.Path.{_≡_, refl, sym, ap, _∙_}
 use Prim.Native.Nat.{ℕ, _+_, _-_, _≤_, _<_, min}
 use native.Mathlib.Omega.{arith}
-use native.Mathlib.Decide.{decLe}
 use mathlib.Core.List.{List, [], _∷_, _++_}
-use lib.ListN.{length, take, drop, set, length-drop, length-take, length-append, drop-of-length-le}
-use lib.Seq.{length-take-le, drop-drop, take-at, drop-at, take-all, take-length}
+use lib.ListN.{length, take, drop, set, length-drop, length-append, drop-of-length-le}
+use lib.Seq.{length-take-le, drop-drop, take-at, drop-at, take-length}
 use Rattle.facts.specs.Over.{over}
 use Rattle.facts.proofs.Over.{over-over, over-next, over-nil}
 use Rattle.facts.proofs.Cells.{stores-over}
 use Rattle.rfc.specs.Writing.{encode}
-use Rattle.rfc.proofs.Writing.{encode-more, encode-none}
+use Rattle.rfc.proofs.Writing.{encode-none, encode-next}
 
 -- two stores and the bytes behind them are the write of a part
 pub part-over : (room bytes : List ℕ) (at code n : ℕ) → at + (2 + length bytes) ≤ length room
@@ -23,22 +22,6 @@ part-over room bytes at code n h =
 -- the part of a value with its n bytes from one on
 abbrev pub part : ℕ → List ℕ → ℕ → ℕ → List ℕ
 part code v from n = code ∷ n ∷ take n (drop from v)
-
--- a piece is what is left, or its first bytes
-take-min : (k : ℕ) (l : List ℕ) → take (min k (length l)) l ≡ take k l
-take-min k l = go (decLe k (length l))
-  where
-    go : Dec (k ≤ length l) → take (min k (length l)) l ≡ take k l
-    go (yes h) = let e : min k (length l) ≡ k = omega arith in ap (λ (n : ℕ). take n l) e
-    go (no h) = take-all (min k (length l)) l (omega arith) ∙ sym (take-all k l (omega arith))
-
-drop-min : (k : ℕ) (l : List ℕ) → drop (min k (length l)) l ≡ drop k l
-drop-min k l = go (decLe k (length l))
-  where
-    go : Dec (k ≤ length l) → drop (min k (length l)) l ≡ drop k l
-    go (yes h) = let e : min k (length l) ≡ k = omega arith in ap (λ (n : ℕ). drop n l) e
-    go (no h) =
-        drop-of-length-le l {i = min k (length l)} (omega arith) ∙ sym (drop-of-length-le l {i = k} (omega arith))
 
 -- of a value in parts of so many bytes, `done` bytes are written, and they hold the first `from` bytes of the value
 pub record Sofar (size : ℕ) (room₀ room v : List ℕ) (place code done from : ℕ) : Type 0 where
@@ -56,12 +39,8 @@ module _ (size : ℕ) (some : 0 < size) where
   next-part v code from n h e =
       let rest : List ℕ = drop from v in
       let l : length rest ≡ length v - from = length-drop from v in
-      let m : n ≡ min size (length rest) = e ∙ ap (min size) (sym l) in
-      let t : take size rest ≡ take n rest = sym (ap (λ (k : ℕ). take k rest) m ∙ take-min size rest) in
-      let d : drop size rest ≡ drop (from + n) v =
-      sym (ap (λ (k : ℕ). drop k rest) m ∙ drop-min size rest) ∙ drop-drop n from v in
-      let k : length (take size rest) ≡ n = length-take size rest ∙ sym m in
-      encode-more size some code rest (omega arith) ∙ (λ i. code ∷ k i ∷ (t i ++ encode size code (d i)))
+      encode-next size some code rest n (omega arith) (e ∙ ap (min size) (sym l))
+      ∙ ap (λ (r : List ℕ). part code v from n ++ encode size code r) (drop-drop n from v)
 
   pub sofar-none : {room v : List ℕ} {place code : ℕ} → Sofar size room room v place code 0 0
   sofar-none {room} {v} {place} {code} =

@@ -3,6 +3,5 @@ pub mod Puts
 pub mod Rows
 pub mod Together
 pub mod Values
-pub mod Lending
 pub mod Arrays
 pub mod Unique

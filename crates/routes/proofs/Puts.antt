@@ -10,7 +10,8 @@ use lib.Dec.{eqb, leb, ltb, lit<}
 use lib.ListN.{length, take, drop, set, length-append, length-set}
 use lib.Seq.{take-nil, drop-nil}
 use Rattle.facts.specs.Over.{over}
-use Rattle.facts.proofs.Over.{over-nil, over-over, set-over, set-set-over}
+use Rattle.facts.proofs.Over.{over-nil, over-over, set-over}
+use Rattle.facts.proofs.Cells.{stores-over}
 use Rattle.rfc.specs.Numbers.{mostPart}
 use Rattle.rfc.specs.Routes.{routesCode}
 use Rattle.rfc.specs.Writing.{encode}
@@ -88,7 +89,7 @@ module _ (byte : ℕ) (v : List ℕ) (told : Told v) where
       let e : put (p, room) byte ≡ put d byte =
       ap (λ (x : State). added x byte) (begins ∙ sym (opened-inside (d .0) (d .1) (omega arith))) in
       let head : Puts (p, room) (routesCode ∷ n ∷ []) d =
-      record { to = refl; left = set-set-over room (p .at) routesCode n (omega (arith, ap length next)) } in
+      record { to = refl; left = stores-over room (p .at) (routesCode ∷ n ∷ []) (omega (arith, ap length next)) } in
       let long : length (d .1) ≡ length room =
       length-set (set room (p .at) routesCode) (p .at + 1) n ∙ length-set room (p .at) routesCode in
       let value : Puts d (rest n all) (foldl put d all) =

@@ -24,6 +24,9 @@ const MOST_WIDTH: u8 = 32;
 // The bytes of an address.
 const ADDRESS: usize = 4;
 
+// What the highest of them counts.
+const HIGHEST: u32 = 16777216;
+
 // A route: the width of its subnet mask, its destination and its gateway.
 pub struct Route {
     pub width: u8,
@@ -184,28 +187,17 @@ fn put_route(room: &mut [u8], pass: Pass, route: Route) -> Pass
     put_address(room, past_destination, route.gateway, ADDRESS)
 }
 
-// Puts the first `n` of an address's four bytes, the highest first.
-fn put_address(room: &mut [u8], pass: Pass, address: u32, n: usize) -> Pass
+// Puts the first `n` of an address's four bytes, the highest first. `rest` has those that are left at its top.
+fn put_address(room: &mut [u8], start: Pass, address: u32, n: usize) -> Pass
     requires { ⌜ n ≤ 4 ⌝ }
-    ensures { λ r. ⌜ (r, now (room .exit)) ≡ foldl put (pass, now (room .entry)) (take n (digits 4 address)) ⌝ }
-{
-    let bytes = [
-        (address / 16777216 % 256) as u8,
-        (address / 65536 % 256) as u8,
-        (address / 256 % 256) as u8,
-        (address % 256) as u8,
-    ];
-    put_all(room, pass, &bytes[..n])
-}
-
-// Puts some bytes of the value.
-fn put_all(room: &mut [u8], start: Pass, bytes: &[u8]) -> Pass
-    ensures { λ r. ⌜ (r, now (room .exit)) ≡ foldl put (start, now (room .entry)) (now (bytes .entry)) ⌝ }
+    ensures { λ r. ⌜ (r, now (room .exit)) ≡ foldl put (start, now (room .entry)) (take n (digits 4 address)) ⌝ }
 {
     let mut pass = start;
+    let mut rest = address;
     let mut i: usize = 0;
-    while i < bytes.len() {
-        pass = put_next(room, pass, bytes[i]);
+    while i < n {
+        pass = put_next(room, pass, (rest / HIGHEST) as u8);
+        rest = rest % HIGHEST * 256;
         i += 1;
     }
     pass

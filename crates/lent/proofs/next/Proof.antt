@@ -25,11 +25,11 @@ use types.Part.{agg, whole, sub, look-in, store-in}
 use sound.WpLaws.{FmC, fmOf, WpFn-mono}
 use denote.RattleType.{owns}
 use denote.Laws.{Is, shows}
-use denote.Plain.{uint-makes, uint-lawful}
+use denote.Plain.{uint-lawful}
 use denote.Builtin.{u8, usize}
 use denote.Ref.{RefT, MutRef, ptr-vals, mut-tells}
 use denote.Slice.{slice-vals, MutSlice, ShrSlice, Room, mut-slice-tells, shr-slice-tells}
-use denote.Steps.{only, owned, facts, nothing}
+use denote.Steps.{only, facts, nothing}
 use denote.Signature.{plain}
 use denote.Triple.Entry.{onEntry}
 use denote.Triple.Spec.{Meets, tripleOf}
@@ -50,8 +50,9 @@ use Rattle.borrowed.proofs.place_after.Symbol.{name as #borrowed·place-after}
 use Rattle.borrowed.proofs.place_after.Met as after-thm
 use Rattle.lent.specs.declared.Walk.{Walk}
 use Rattle.lent.proofs.Walk.{the-row as R}
-use Rattle.lent.proofs.Steps.{var, two, three, sets, lands-in, calls, freed}
-use Rattle.lent.proofs.Values.{sliceOf, slice-typed, Area, keeps-area, Answer, stores-answer, copies-answer}
+use Rattle.facts.proofs.Steps.{var, two, three, sets, lands-in, calls, freed}
+use Rattle.facts.proofs.Values.{sliceOf, slice-typed, Slice, keeps-slice, has-usize}
+use Rattle.lent.proofs.Values.{Answer, stores-answer, copies-answer}
 use Rattle.lent.proofs.Lending.{opens-walk, closes-walk}
 use Rattle.lent.proofs.Moves.{moves}
 use Rattle.lent.proofs.next.Key.{name as #lent·next}
@@ -104,10 +105,10 @@ module _ {M : Type 1} (𝓤 : URA M) (H : Heap 𝓤) (A : Atoms 𝓤) (W : Given
   to-step = (((κa, (κj, tt)), (qa, (qj, tt)), tt, (xa, (n, (xj, tt))), (sliceOf xa ∷ [], (vint w64 n ∷ [], (sliceOf xj ∷ [], tt)))), tt)
 
   asked-step : n < 2 ^ 64
-      → ent 𝓤 (⋆ 𝓤 H A (tokens ∷ ‵ (Area (named 1) κa xa) ∷ ‵ Join ∷ [])) (Steps 𝓤 H A mem run .pre to-step)
+      → ent 𝓤 (⋆ 𝓤 H A (tokens ∷ ‵ (Slice u8 (named 1) κa xa) ∷ ‵ Join ∷ [])) (Steps 𝓤 H A mem run .pre to-step)
   asked-step fits =
-      qed W (tokens ∷ ‵ (Area (named 1) κa xa) ∷ ‵ Join ∷ []) ∵
-      owned ! usize (Is usize) (uint-makes 𝓤 H A W w64) n _ (refl, fits) $ move ! (0 ∷ 3 ∷ []) $ fjoin ! $ move ! (2 ∷ 0 ∷ []) $ fjoin ! $
+      qed W (tokens ∷ ‵ (Slice u8 (named 1) κa xa) ∷ ‵ Join ∷ []) ∵
+      has-usize ! n fits $ move ! (0 ∷ 3 ∷ []) $ fjoin ! $ move ! (2 ∷ 0 ∷ []) $ fjoin ! $
       move ! (1 ∷ 0 ∷ []) $ join ! $ frame ! $ done !
 
   -- `place_after` is called on the answer and the place
@@ -116,7 +117,7 @@ module _ {M : Type 1} (𝓤 : URA M) (H : Heap 𝓤) (A : Atoms 𝓤) (W : Given
 
   asked-after : n < 2 ^ 64 → (r : Step) (v : Val) → ent 𝓤 (sem 𝓤 H A (Answer r v)) (After 𝓤 H A mem run .pre (to-after r v))
   asked-after fits r v =
-      qed W (‵ (Answer r v) ∷ []) ∵ nothing ! $ owned ! usize (Is usize) (uint-makes 𝓤 H A W w64) n _ (refl, fits) $ fjoin ! $
+      qed W (‵ (Answer r v) ∷ []) ∵ nothing ! $ has-usize ! n fits $ fjoin ! $
       move ! (1 ∷ 0 ∷ []) $ fjoin ! $ nothing ! $ join ! $ frame ! $ done !
 
   module _ (C : Calls 𝓤 H) (Λ : Loops 𝓤 H) (fm : FmC 𝓤 H (W .laws) C) (step-known : Triple 𝓤 (C #borrowed·step) (Steps 𝓤 H A mem run))
@@ -130,8 +131,8 @@ module _ {M : Type 1} (𝓤 : URA M) (H : Heap 𝓤) (A : Atoms 𝓤) (W : Given
         enter ! C Λ code.function (vptr b o ∷ sliceOf xa ∷ sliceOf xj ∷ []) _ $
         alloc1 ! (λ l₀. alloc1 ! (λ l₁. alloc1 ! (λ l₂. alloc1 ! (λ l₃. alloc1 ! (λ l₄. alloc1 ! (λ l₅. alloc1 ! (λ l₆. alloc1 ! (λ l₇.
         alloc1 ! (λ l₈. alloc0 ! $ params1 ! $
-        pass1 ! (init ! 14 refl (tt, tt)) $ pass1 ! (init ! 12 refl (tt, slice-typed xa room-a)) $
-        pass1 ! (init ! 10 refl (tt, slice-typed xj room-j)) $ pass0 ! $
+        pass1 ! (init ! 14 refl (tt, tt)) $ pass1 ! (init ! 12 refl (tt, slice-typed xa (room-a .0))) $
+        pass1 ! (init ! 10 refl (tt, slice-typed xj (room-j .0))) $ pass0 ! $
         -- the walk is opened, and stays open over both calls: [_8 0; …; _0 16; …; the tokens 18; what the parameters own 19]
         move ! (19 ∷ []) $ fsplit ! $ fsplit3 ! $ drop ! $ move ! (21 ∷ []) $ split ! $ move ! (2 ∷ 3 ∷ 0 ∷ []) $
         opens-walk ! tt h b o (λ fits.
@@ -141,9 +142,9 @@ module _ {M : Type 1} (𝓤 : URA M) (H : Heap 𝓤) (A : Atoms 𝓤) (W : Given
         -- the join buffer is lent on
         sets ! (addr ! (from ! (fld ! refl (hop ! (look-in ! 16 (sub ! 0 refl (whole !))) (stop !))))) 8 refl (tt, tt) $
         sets ! (agg ! (two ! (var ! 8 refl) (load ! (from ! (fld ! refl (stop !))) (look-in ! 16 (sub ! 1 refl (whole !))))))
-        6 refl (tt, slice-typed xj room-j) $
+        6 refl (tt, slice-typed xj (room-j .0)) $
         -- `step`, with a copy of the area
-        move ! (5 ∷ []) $ fsplit ! $ keeps-area ! (named 1) κa xa $ move ! (7 ∷ 0 ∷ 2 ∷ []) $
+        move ! (5 ∷ []) $ fsplit ! $ keeps-slice ! u8 (named 1) κa xa $ move ! (7 ∷ 0 ∷ 2 ∷ []) $
         use3 W (raw (Steps 𝓤 H A mem run .pre to-step)) (asked-step fits) $
         -- [what it asks 0; the area 1; the walk 2; its open borrow 3 4 5; _8 6; …; _0 22]
         calls ! fm step.ended (step.clauses 𝓤 H A mem run) step-known to-step (three ! (var ! 18 refl) (var ! 14 refl) (var ! 6 refl))

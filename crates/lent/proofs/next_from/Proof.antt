@@ -40,8 +40,9 @@ use denote.Exit.{yes}
 use Rattle.lent.specs.Moved.{Moved}
 use Rattle.lent.specs.declared.Walk.{Walk}
 use Rattle.lent.proofs.Walk.{the-row as R}
-use Rattle.lent.proofs.Steps.{var, two, three, sets, lands-in, calls, freed}
-use Rattle.lent.proofs.Values.{sliceOf, slice-typed, keeps-area, stores-answer}
+use Rattle.facts.proofs.Steps.{var, two, three, sets, lands-in, calls, freed}
+use Rattle.facts.proofs.Values.{sliceOf, slice-typed, keeps-slice}
+use Rattle.lent.proofs.Values.{stores-answer}
 use Rattle.lent.proofs.Lending.{refTo, lends-walk, walk-comes-back}
 use Rattle.lent.proofs.next as next
 use Rattle.lent.proofs.next.Symbol as next-def
@@ -114,19 +115,19 @@ module _ {M : Type 1} (𝓤 : URA M) (H : Heap 𝓤) (A : Atoms 𝓤) (W : Given
         enter ! C Λ code.function (sliceOf xa ∷ vint w64 n ∷ sliceOf xj ∷ []) _ $
         alloc1 ! (λ l₀. alloc1 ! (λ l₁. alloc1 ! (λ l₂. alloc1 ! (λ l₃. alloc1 ! (λ l₄. alloc1 ! (λ l₅. alloc1 ! (λ l₆. alloc1 ! (λ l₇.
         alloc0 ! $ params1 ! $
-        pass1 ! (init ! 12 refl (tt, slice-typed xa room-a)) $ pass1 ! (init ! 10 refl (tt, record { fits = fits })) $
-        pass1 ! (init ! 8 refl (tt, slice-typed xj room-j)) $ pass0 ! $
+        pass1 ! (init ! 12 refl (tt, slice-typed xa (room-a .0))) $ pass1 ! (init ! 10 refl (tt, record { fits = fits })) $
+        pass1 ! (init ! 8 refl (tt, slice-typed xj (room-j .0))) $ pass0 ! $
         -- `let mut walk = Walk { place }`, and a reference to it: [_7 0; …; _4 6; …; _0 14; …; the tokens 16; what the parameters own 17]
         sets ! (agg ! (and-then ! (var ! 10 refl) (no-more !))) 6 refl (tt, (record { fits = fits }, tt)) $
         sets ! (addr ! (from ! (stop !))) 4 refl (tt, tt) $
         -- the join buffer is lent on
         sets ! (addr ! (from ! (fld ! refl (hop ! (look-in ! 8 (sub ! 0 refl (whole !))) (stop !))))) 2 refl (tt, tt) $
         sets ! (agg ! (two ! (var ! 2 refl) (load ! (from ! (fld ! refl (stop !))) (look-in ! 8 (sub ! 1 refl (whole !))))))
-        0 refl (tt, slice-typed xj room-j) $
+        0 refl (tt, slice-typed xj (room-j .0)) $
         -- the walk is lent
         move ! (6 ∷ []) $ lends-walk ! tt h l₄ fits (λ ν γ.
         -- `next`, with a copy of the area: [the reference 0; its token 1; the lender's part 2; _7 3; …; the tokens 18; what is owned 19]
-        move ! (19 ∷ []) $ fsplit ! $ keeps-area ! (named 0) κa xa $ move ! (2 ∷ []) $ fsplit ! $
+        move ! (19 ∷ []) $ fsplit ! $ keeps-slice ! u8 (named 0) κa xa $ move ! (2 ∷ []) $ fsplit ! $
         move ! (2 ∷ 1 ∷ []) $ fjoin ! $ move ! (3 ∷ 0 ∷ []) $ fjoin ! $ move ! (3 ∷ 20 ∷ []) $ join ! $
         use2 W (raw (Nexts 𝓤 H A mem run .pre (to-next ν l₄ γ))) (asked-next ν l₄ γ) $
         -- [what it asks 0; the place 1; the area 2; the lender's part 3; _7 4; …; _0 17]

@@ -50,12 +50,13 @@ use denote.Triple.Walked.{Stays, stay-none, stay-none-slice, stay-slice, goes-no
 use denote.Triple.Walked.{walkOf, walked, ends-at, says, walk-meets}
 use denote.Exit.{yes}
 use Rattle.facts.proofs.Folds.{fold-next, fold-end}
-use Rattle.lent.proofs.Steps.{var, two, three, sets, calls, freed}
+use Rattle.facts.proofs.Steps.{var, two, three, sets, calls, freed}
+use Rattle.facts.proofs.Values.{sliceOf, slice-typed, Slice, keeps-slice}
+use Rattle.facts.proofs.Lending.{roomAt, Lent, lends-room, room-comes-back}
 use Rattle.routes.specs.Passes.{State, passed}
 use Rattle.routes.specs.declared.Pass.{Pass}
 use Rattle.routes.specs.declared.Route.{Route}
-use Rattle.routes.proofs.Values.{sliceOf, slice-typed, noRoute, Table, keeps-table, Holds, stores-pass, copies-pass}
-use Rattle.routes.proofs.Lending.{roomAt, Lent, lends-room, room-comes-back}
+use Rattle.routes.proofs.Values.{Holds, stores-pass, copies-pass}
 use Rattle.routes.proofs.Route as T
 use Rattle.routes.proofs.Route.Laws as T′
 use Rattle.routes.proofs.Pass as P
@@ -76,6 +77,10 @@ R = T.the-row
 -- the bytes of a record in memory: the proof does not say how many
 abbrev size : ℕ
 size = cell R .size
+
+-- the record that would stand past the table's end
+abbrev noRoute : Route
+noRoute = record { width = 0; destination = 0; gateway = 0 }
 
 -- a record's machine values
 abbrev valsOf : Route → List Val
@@ -194,7 +199,7 @@ module _ {M : Type 1} (𝓤 : URA M) (H : Heap 𝓤) (A : Atoms 𝓤) (W : Given
         ∷ ‵ (froom word l₆ 0) ∷ ‵ (froom tyBool l₇ 0) ∷ ‵ (froom ref l₈ 0) ∷ ‵ (froom (sliceTy ref) l₉ 0) ∷ ‵ (froom tyPtr l₁₀ 0)
         ∷ ‵ (froom T′.mir l₁₁ 0) ∷ ‵ (Lent xr κr (xr .name) (t .bytes)) ∷ ‵ (flft κr qr)
         ∷ ‵ (fat fullShare roomTy l₁ 0 (sliceOf xr)) ∷ ‵ (fat fullShare P′.mir l₂ 0 v₀) ∷ ‵ (fat fullShare tableTy l₃ 0 (sliceOf xt))
-        ∷ ‵ (froom P′.mir l₀ 0) ∷ ‵ (flft κt qt) ∷ ‵ Shared ∷ ‵ (Table (named 1) κt xt) ∷ ‵ (Holds p₀ v₀)
+        ∷ ‵ (froom P′.mir l₀ 0) ∷ ‵ (flft κt qt) ∷ ‵ Shared ∷ ‵ (Slice R (named 1) κt xt) ∷ ‵ (Holds p₀ v₀)
         ∷ ‵ (fdies P′.mir l₀) ∷ ‵ (fdies roomTy l₁) ∷ ‵ (fdies P′.mir l₂) ∷ ‵ (fdies tableTy l₃) ∷ ‵ (fdies P′.mir l₄) ∷ ‵ (fdies word l₅)
         ∷ ‵ (fdies word l₆) ∷ ‵ (fdies tyBool l₇) ∷ ‵ (fdies ref l₈) ∷ ‵ (fdies (sliceTy ref) l₉) ∷ ‵ (fdies tyPtr l₁₀)
         ∷ ‵ (fdies T′.mir l₁₁) ∷ []
@@ -338,7 +343,7 @@ module _ {M : Type 1} (𝓤 : URA M) (H : Heap 𝓤) (A : Atoms 𝓤) (W : Given
         sets ! (of-opd ! (lit ! tt)) 12 refl (tt, record { fits = lit< tt }) $
         -- the state is had twice, and so is the table: once whole, and once what it shares
         move ! (25 ∷ []) $ fsplit ! $ move ! (1 ∷ []) $ fsplit ! $ copies-pass ! p₀ v₀ $ move ! (2 ∷ []) $ fsplit ! $
-        keeps-table ! (named 1) κt xt $ fsplit ! $ let-go ! $ fsplit ! $ let-go ! $
+        keeps-slice ! R (named 1) κt xt $ fsplit ! $ let-go ! $ fsplit ! $ let-go ! $
         -- [what the table shares 0; the table 1; true 2; the state 3 4; the room 5; _11 6; …; _0 28; …; the tokens 30]
         move ! (30 ∷ []) $ split ! $ move ! (1 ∷ []) $ split ! $
         -- the loop's head: [the table's token 0; true 1; the room's token 2; the table's 3 4; true 5; the state 6 7; the room 8; _11 9; …]

@@ -14,12 +14,12 @@ use Rattle.routes.proofs.measure.Tie as tie
 returns : tie.Need-returns
 returns c =
     let a = c .before .before .args in
-    sym (measured-12 (a .pass) (rowOf (a .route)) (c .if1 .taken))
+    sym (measured-12 (a .pass) (rowOf (a .route)) (omega arith))
 
 returns-2 : tie.Need-returns-2
 returns-2 c =
     let a = c .before .before .before .before .args in
-    sym (measured-full (a .pass) (rowOf (a .route)) (c .before .before .if1 .left) (c .if2 .taken))
+    sym (measured-full (a .pass) (rowOf (a .route)) (omega arith) (omega arith))
 
 significant-requires : tie.Need-significant-requires
 significant-requires c κs = search needs
@@ -38,7 +38,7 @@ returns-3 c =
     let tested = c .before .before in
     let a = tested .before .before .before .before .args in
     let n = c .before .significant in
-    sym (measured-longer (a .pass) (rowOf (a .route)) (tested .before .before .if1 .left) (tested .if2 .left)
+    sym (measured-longer (a .pass) (rowOf (a .route)) (omega arith) (omega arith)
     ∙ ap (λ (k : ℕ). longer k (a .pass)) (length-route (rowOf (a .route)) (n .result) (n .ensures)))
 
 pub measure-spec : {M : Type 1} → statement M

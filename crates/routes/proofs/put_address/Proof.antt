@@ -1,58 +1,96 @@
--- `put_address` meets its contract: its four bytes are the address's digits.
+-- `put_address` meets its contract: the first bytes of what is left of the address give, from where the loop stands, the same end.
 -- Assumes nothing.
-use mathlib.Core.Path.{_≡_, sym, ap, _∙_}
-use Prim.Native.Nat.{ℕ, _/_, _%_}
-use mathlib.Core.List.{[], _∷_, foldl}
+use mathlib.Core.Path.{_≡_, refl, sym, ap, _∙_}
+use Prim.Native.Nat.{ℕ, suc, _+_, _-_, _*_, _/_, _%_, _≤_, _<_}
+use mathlib.Core.List.{List, _∷_, foldl}
 use native.Mathlib.Omega.{arith}
-use lib.ListN.{take}
-use lib.Seq.{length-take-le}
+use lib.ListN.{length, take}
 use borrow.Author.Needs.{needs}
-use Rattle.routes.specs.Passes.{put}
+use Rattle.facts.specs.BigEndian.{digits}
+use Rattle.facts.proofs.BigEndian.{next-of-four}
+use Rattle.routes.specs.Passes.{State, put}
 use Rattle.routes.proofs.put_address.Statement.{statement}
 use Rattle.routes.proofs.put_address.Tie as tie
 
-cast-t8 : tie.Need-cast-t8
-cast-t8 c = search needs
+abbrev Inv-loop : tie.InvT-loop
+Inv-loop room₀ address n pass₀ rest₀ i₀ room pass rest i =
+    (i ≤ n)
+    × (rest < 4294967296)
+    × (_≡_ {A = State} (foldl put (pass, room) (take (n - i) (digits 4 rest))) (foldl put (pass₀, room₀) (take n (digits 4 address))))
+    × (length room ≡ length room₀)
 
-cast-t11 : tie.Need-cast-t11
-cast-t11 c = search needs
+abbrev μ-loop : tie.MeasureT-loop
+μ-loop room₀ address n pass₀ rest₀ i₀ room pass rest i = n - i
 
-cast-t14 : tie.Need-cast-t14
-cast-t14 c = search needs
+-- a turn puts the highest byte
+one-more : (d d′ : State) (rest n i : ℕ) → i < n → n ≤ 4 → rest < 4294967296 → d′ ≡ put d (rest / 16777216)
+    → foldl put d′ (take (n - (i + 1)) (digits 4 (rest % 16777216 * 256))) ≡ foldl put d (take (n - i) (digits 4 rest))
+one-more d d′ rest n i h g f e =
+    let behind : List ℕ = take (n - (i + 1)) (digits 4 (rest % 16777216 * 256)) in
+    let k : suc (n - (i + 1)) ≡ n - i = omega arith in
+    let byte : rest / 16777216 ≡ rest / 16777216 % 256 = omega arith in
+    ap (λ (x : State). foldl put x behind) e
+    ∙ ap (λ (b : ℕ). foldl put d (b ∷ behind)) byte
+    ∙ ap (foldl put d) (sym (next-of-four rest (n - (i + 1)) (omega arith)))
+    ∙ ap (λ (m : ℕ). foldl put d (take m (digits 4 rest))) k
 
-cast-t16 : tie.Need-cast-t16
-cast-t16 c = search needs
+loop-holds : tie.Need-loop-holds Inv-loop μ-loop
+loop-holds c =
+    let a = c .before .args in
+    let k : a .n - 0 ≡ a .n = omega arith in
+    (omega arith, omega arith, ap (λ (m : ℕ). foldl put (a .start, a .room .now) (take m (digits 4 (a .address)))) k, refl)
 
-array-share-prefix-bytes : tie.Need-array-share-prefix-bytes
-array-share-prefix-bytes c = search needs
+cast-put-next : tie.Need-cast-put-next Inv-loop μ-loop
+cast-put-next c = omega arith
 
-slice-aggregate-put-all : tie.Need-slice-aggregate-put-all
-slice-aggregate-put-all c = sym (length-take-le _ _ (c .before .before .before .pre))
+put-next-requires : tie.Need-put-next-requires Inv-loop μ-loop
+put-next-requires c κs = search needs
 
-put-all-requires : tie.Need-put-all-requires
-put-all-requires c κs = search needs
+mul-rest : tie.Need-mul-rest Inv-loop μ-loop
+mul-rest c = omega arith
 
-same-length : tie.Need-same-length
-same-length c = search needs
+add-i : tie.Need-add-i Inv-loop μ-loop
+add-i c = omega arith
 
-returns : tie.Need-returns
+loop-less : tie.Need-loop-less Inv-loop μ-loop
+loop-less c = omega arith
+
+loop-again : tie.Need-loop-again Inv-loop μ-loop
+loop-again c =
+    let turn = c .before .before .put-next in
+    let head = c .before .before .before .before .before in
+    let l = head .loop in
+    let start = head .before .before in (
+      omega arith,
+      omega arith,
+      one-more (l .pass, l .room) (turn .result, turn .last .0) (l .rest) (start .args .n) (l .i)
+          (omega arith) (start .pre) (l .inv .1) (turn .ensures)
+          ∙ l .inv .2,
+      turn .kept .0 ∙ l .inv .3,
+    )
+
+same-length : tie.Need-same-length Inv-loop μ-loop
+same-length c = c .before .loop .inv .3
+
+returns : tie.Need-returns Inv-loop μ-loop
 returns c =
-    let a = c .before .before .before .before .before .before .args in
-    let n = a .address in
-    let last : n % 256 ≡ n / 1 % 256 = omega arith in
-    c .before .before .put-all .ensures
-    ∙ ap (λ (x : ℕ). foldl put (a .pass, a .room .now) (take (a .n) (n / 16777216 % 256 ∷ n / 65536 % 256 ∷ n / 256 % 256 ∷ x ∷ []))) last
+    let head = c .before in
+    let l = head .loop in
+    let k : 0 ≡ head .before .before .args .n - l .i = omega arith in
+    ap (λ (m : ℕ). foldl put (l .pass, l .room) (take m (digits 4 (l .rest)))) k ∙ l .inv .2
 
 pub put-address-spec : {M : Type 1} → statement M
 put-address-spec =
     tie.close
     (tie.spec
-    cast-t8
-    cast-t11
-    cast-t14
-    cast-t16
-    array-share-prefix-bytes
-    slice-aggregate-put-all
-    put-all-requires
+    Inv-loop
+    μ-loop
+    loop-holds
+    cast-put-next
+    put-next-requires
+    mul-rest
+    add-i
+    loop-less
+    loop-again
     same-length
     returns)

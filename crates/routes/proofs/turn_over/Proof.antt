@@ -15,13 +15,13 @@ returns c =
 returns-2 : tie.Need-returns-2
 returns-2 c =
     let a = c .before .before .before .args in
-    sym (turned-7 (a .pass) (a .n) (c .before .if1 .left) (c .if2 .taken))
+    sym (turned-7 (a .pass) (a .n) (c .before .if1 .left) (omega arith))
 
 returns-3 : tie.Need-returns-3
 returns-3 c =
     let fits = c .before .before in
     let a = fits .before .before .before .args in
-    sym (turned-8 (a .pass) (a .n) (fits .before .if1 .left) (fits .if2 .left) (omega arith))
+    sym (turned-8 (a .pass) (a .n) (fits .before .if1 .left) (omega arith) (omega arith))
 
 sub-if4 : tie.Need-sub-if4
 sub-if4 c = search needs
@@ -39,13 +39,13 @@ returns-4 : tie.Need-returns-4
 returns-4 c =
     let fits = c .before .before .before .before in
     let a = fits .before .before .before .args in
-    sym (turned-8 (a .pass) (a .n) (fits .before .if1 .left) (fits .if2 .left) (omega arith))
+    sym (turned-8 (a .pass) (a .n) (fits .before .if1 .left) (omega arith) (omega arith))
 
 returns-5 : tie.Need-returns-5
 returns-5 c =
     let fits = c .before .before .before .before in
     let a = fits .before .before .before .args in
-    sym (turned-second (a .pass) (a .n) (fits .before .if1 .left) (fits .if2 .left) (omega arith))
+    sym (turned-second (a .pass) (a .n) (fits .before .if1 .left) (omega arith) (omega arith))
 
 pub turn-over-spec : {M : Type 1} → statement M
 turn-over-spec =

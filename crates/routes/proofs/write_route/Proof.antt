@@ -26,11 +26,11 @@ use types.Part.{agg, whole, sub, look-in}
 use sound.WpLaws.{FmC, fmOf, WpFn-mono}
 use denote.RattleType.{owns}
 use denote.Laws.{Is}
-use denote.Plain.{uint-vals, uint-tells, uint-makes}
+use denote.Plain.{uint-vals, uint-tells}
 use denote.Builtin.{u8, usize}
 use denote.Ref.{RefT}
 use denote.Slice.{slice-vals, MutSlice, ShrSlice, Room, mut-slice-tells}
-use denote.Steps.{owned, nothing}
+use denote.Steps.{nothing}
 use denote.Signature.{plain}
 use denote.Struct.Laws as struct
 use denote.Triple.Entry.{onEntry}
@@ -42,10 +42,11 @@ use denote.Triple.Walked.{walkOf, walked, ends-at, says, walk-meets}
 use denote.Exit.{yes}
 use Rattle.rfc.specs.Routes.{writeRoutes}
 use Rattle.encoder.specs.Written.{Wrote}
-use Rattle.lent.proofs.Steps.{var, two, three, sets, lands-in, calls, freed}
+use Rattle.facts.proofs.Steps.{var, two, three, sets, lands-in, calls, freed}
+use Rattle.facts.proofs.Values.{sliceOf, slice-typed, has-usize}
 use Rattle.routes.specs.Rows.{rowsOf}
 use Rattle.routes.specs.declared.Route.{Route}
-use Rattle.routes.proofs.Values.{sliceOf, slice-typed, stores-answer}
+use Rattle.routes.proofs.Values.{stores-answer}
 use Rattle.routes.proofs.Arrays.{tableOf, table-typed, lends-table, table-comes-back}
 use Rattle.routes.proofs.Route as T
 use Rattle.routes.proofs.Route.{the-row as R}
@@ -130,7 +131,7 @@ module _ {M : Type 1} (𝓤 : URA M) (H : Heap 𝓤) (A : Atoms 𝓤) (W : Given
         move ! (8 ∷ []) $ lends-table ! tt r is l₄ (λ ν γ.
         -- [the table 0; its token 1; the lender's part 2; _8 3; …; the room's token 20; what is owned 21]
         move ! (21 ∷ []) $ fsplit ! $ move ! (1 ∷ []) $ fsplit ! $
-        nothing ! $ move ! (4 ∷ 0 ∷ []) $ fjoin ! $ owned ! usize (Is usize) (uint-makes 𝓤 H A W w64) place _ (refl, fits) $ fjoin ! $
+        nothing ! $ move ! (4 ∷ 0 ∷ []) $ fjoin ! $ has-usize ! place fits $ fjoin ! $
         move ! (3 ∷ 0 ∷ []) $ fjoin ! $
         -- [what is passed 0; the place 1; the route 2; the table's token 3; the lender's part 4; _8 5; …; the room's token 22]
         move ! (22 ∷ []) $ split ! $ move ! (5 ∷ 1 ∷ []) $ join ! $ move ! (1 ∷ 0 ∷ []) $ join ! $
