@@ -74,7 +74,7 @@ abbrev pub Seconds : ℤ → Type 0
 Seconds (pos n) = n < 2 ^ 31
 Seconds (negsuc n) = n < 2 ^ 31
 
--- what the values of each kind are
+-- what the values of each kind are; of bytes as they stand nothing is asked here, and that text is UTF-8 is checked by the write
 pub data Proper : ℕ → Content → Type 0 where
   bytes : (v : List ℕ) → Proper 0 (raw v)
   address : (n : ℕ) → n < 2 ^ 32 → Proper 1 (natural n)
