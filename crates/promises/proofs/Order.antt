@@ -4,7 +4,7 @@ use mathlib.Core.Path.{refl}
 use Rattle.rfc.specs.Header.{messageChecks, chaddrChecks}
 use Rattle.rfc.specs.Walk.{stepChecks}
 use Rattle.rfc.specs.Values.{readChecks}
-use Rattle.rfc.specs.Writing.{writeChecks, writeSlice, writeBytes, close}
+use Rattle.rfc.specs.Writing.{writeChecks, writeSlice, intoRoom, writeBytes, close}
 use Rattle.rfc.specs.Typed.{writeValue, writeKind, codeChecks, valueChecks}
 use Rattle.rfc.specs.Routes.{writeRoutes}
 use Rattle.rfc.proofs.Walk.{needs-last}
@@ -13,7 +13,7 @@ use Rattle.rfc.proofs.Readings.{option-refused, option-needs}
 use Rattle.promises.specs.Order.{follows, OrderOfChecks, JoinComesLast, IndexComesLast, WalkComesFirst}
 
 pub order-of-checks : OrderOfChecks
-unfolding follows messageChecks chaddrChecks stepChecks readChecks writeChecks writeSlice writeBytes close writeValue writeKind codeChecks valueChecks writeRoutes
+unfolding follows messageChecks chaddrChecks stepChecks readChecks writeChecks writeSlice writeBytes close intoRoom writeValue writeKind codeChecks valueChecks writeRoutes
 order-of-checks message area room value bytes place code mode typed routes = (refl, refl, refl, refl, refl, refl, refl, refl, refl)
 
 pub join-comes-last : JoinComesLast

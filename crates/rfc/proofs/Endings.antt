@@ -54,7 +54,7 @@ moves at (b ∷ rest) = go (eqb b padCode) (eqb b endCode) (moves (at + 1) rest)
     go false false m = moves-behind at b rest
 
 -- the same of a call, in an area of so many bytes
-abbrev MovesCall : ℕ → ℕ → Answer Found → Type 0
+abbrev pub MovesCall : ℕ → ℕ → Answer Found → Type 0
 MovesCall place size (given (stop s p)) = Unit {0}
 MovesCall place size (given (option code v n p)) = (place + 2 ≤ p) × (p ≤ size)
 MovesCall place size (refused k) = Unit {0}
@@ -70,7 +70,7 @@ moves-room place size room (option code v n p) h m = go (leb n 1) (leb (length v
     go false true = omega arith
     go false false = tt
 
-moves-step : (area : List ℕ) (place room : ℕ) → MovesCall place (length area) (step area place room)
+pub moves-step : (area : List ℕ) (place room : ℕ) → MovesCall place (length area) (step area place room)
 unfolding step stepChecks checked
 moves-step area place room = go (tooLong area) (pastEnd place area) refl
   where

@@ -1,16 +1,18 @@
 -- The laws of `specs/Header.antt`: which messages are refused, and what each reading of the others answers.
 -- Assumes nothing.
-use mathlib.Core.Path.{_≡_, refl, ap, _∙_}
+use mathlib.Core.Path.{_≡_, refl, ap, _∙_, subst}
 use Prim.Native.Nat.{ℕ, suc, _+_, _-_, _≤_, _<_}
 use native.Mathlib.Numerals.{add-one}
+use native.Mathlib.Omega.{arith}
+use mathlib.Core.Bool.{Bool, true, false, cond}
 use mathlib.Core.List.{List}
 use lib.ListN.{length, drop, getD, drop-of-length-le}
 use lib.Seq.{drop-cons}
-use borrow.Author.Tests.{eq-eqb, ne-eqb, lt-ltb, le-ltb}
+use borrow.Author.Tests.{eq-eqb, ne-eqb, lt-ltb, le-ltb, ltb-false}
 use Rattle.facts.specs.BigEndian.{number}
 use Rattle.rfc.specs.Numbers.{given, refused, leastMessage, mostBytes}
 use Rattle.rfc.specs.Header.{Part, part, bytesOf, hlen, chaddrField, snameField, fileField, magicField, messageChecks, field, chaddrPart, chaddrCut, chaddrChecks, chaddr, untilZero, textField, sname, file, magic, magicRight, options, wrongMagic, areaStart, area}
-use Rattle.rfc.proofs.Numbers.{Refuses, here, later, refuses, Clear, done, next, clears, passes, refuser, refuses-front, refuses-behind, clear-both, given-no, long, not-long, short, not-short, long-enough}
+use Rattle.rfc.proofs.Numbers.{Refuses, here, later, refuses, Clear, done, next, clears, clear-last, passes, refuser, refuses-front, refuses-behind, clear-both, given-no, long, not-long, short, not-short, long-enough}
 
 module _ (message : List ℕ) where
   -- the checks of every reading
@@ -88,6 +90,16 @@ module _ (message : List ℕ) where
         clears _ (clear-both (p .0) (next (rw (p .1) (le-ltb (length message) (28 + n) h)) done))
         ∙ ap (λ (k : ℕ). given (part 28 k)) (p .1)
 
+  -- what is shown is there
+  pub chaddr-inside : (p : Part) → chaddr message ≡ given p → p .start + p .len ≤ length message
+  unfolding chaddr chaddrChecks chaddrCut
+  chaddr-inside p e =
+      let q = passes (chaddrChecks message) _ (given p) (given-no p) e in
+      let same : given (chaddrPart message) ≡ given p = q .1 in
+      let is : chaddrPart message ≡ p = cc in
+      subst (λ (x : Part). x .start + x .len ≤ length message) is
+      (ltb-false (length message) _ (clear-last (messageChecks message) (chaddrCut message) 3 (q .0)))
+
   -- the area, by what stands in the magic's place
   pub area-refused : (k : ℕ) → field magicField message ≡ refused k → area message ≡ refused k
   unfolding area
@@ -105,6 +117,19 @@ module _ (message : List ℕ) where
     area-given h =
         let p = given-field magicField n e in
         clears _ (p .0) ∙ rw (p .1, eq-eqb n (number magic) h)
+
+  pub area-inside : (p : Part) → area message ≡ given (options p) → p .start + p .len ≤ length message
+  unfolding area
+  area-inside p e =
+      let q = passes (messageChecks message) _ (given (options p)) (given-no (options p)) e in
+      go (magicRight message) (q .1) (header-whole (q .0))
+    where
+      go : (t : Bool) → given (cond t (options (part areaStart (length message - areaStart))) wrongMagic) ≡ given (options p)
+          → leastMessage ≤ length message → p .start + p .len ≤ length message
+      go true same h =
+          let is : part areaStart (length message - areaStart) ≡ p = cc in
+          subst (λ (x : Part). x .start + x .len ≤ length message) is (omega arith)
+      go false same h = absurd (let z : _≡_ {A = ℕ} 0 1 = cc in omega arith)
 
 -- the first zero: the next byte is one, or it is none, or there is no next byte
 module _ (bytes : List ℕ) (i : ℕ) where

@@ -21,7 +21,7 @@ use Rattle.rfc.specs.Numbers.{given, mostBytes, mostValue, endCode, noCo
 use Rattle.rfc.specs.Kinds.{kinds, kindOf, sizeOf, sizes}
 use Rattle.rfc.specs.Values.{Content, raw, natural, integer, truth, numbers, nothing, Value, widthOf, valueOf, exactly, multiple, Mode, plain, strict, rules, ruleFor, wrongLength, notText, unclear, read, valued, readOption}
 use Rattle.rfc.specs.Walk.{run, further, walk, option, roomFor, step}
-use Rattle.rfc.specs.Writing.{partsOf, encode, answerTo, roomAfter, close}
+use Rattle.rfc.specs.Writing.{partsOf, encode, answerTo, roomAfter, intoRoom, close}
 use Rattle.rfc.specs.Typed.{digitsOf, bytesIn, bytesOf, partSize, encodeKind, oddPairs, writeValue, Apart, Below, Seconds, Proper, bytes, address, addresses, pairs, byte, yesNo, u16, u16s, u32, i32, text, codes, nodeType, messageType, threeBytes, flag}
 use Rattle.rfc.proofs.Numbers.{no-pad, no-end}
 use Rattle.rfc.proofs.Writing.{some-value, given-left, given-fits}
@@ -199,7 +199,7 @@ module _ {code : ℕ} {x : Value} {room : List ℕ} {place to : ℕ} (w : Writte
   -- and that room, closed
   pub closed-back : (mode : Mode) (join closed : ℕ) → place < to → mostValue ≤ join → answerTo (close after to) after to ≡ given closed
       → readOption mode (step (roomAfter (close after to) after to) place join) ≡ given (valued code x to)
-  unfolding close
+  unfolding close intoRoom
   closed-back mode join closed some joins e =
       let more : List ℕ = here ++ endCode ∷ [] in
       let tail : List ℕ = drop (place + length more) room in

@@ -11,7 +11,7 @@ use Rattle.facts.specs.Pieces.{pieces}
 use Rattle.facts.proofs.Least.{take-least, drop-least}
 use Rattle.facts.proofs.Pieces.{pieces-none, pieces-more, flatten-pieces, count-pieces}
 use Rattle.rfc.specs.Numbers.{Answer, given, refused, mostBytes, mostValue, mostPart, padCode, endCode, noRoom}
-use Rattle.rfc.specs.Writing.{partsOf, encode, Write, writeChecks, answerTo, roomLeft, roomAfter, writeSlice, writeBytes, close}
+use Rattle.rfc.specs.Writing.{partsOf, encode, Write, writeChecks, answerTo, roomLeft, roomAfter, writeSlice, intoRoom, writeBytes, close}
 use Rattle.rfc.proofs.Numbers.{Refuses, here, later, refuses, Clear, done, next, clears, passes, clear-last, given-no, long, not-long, past, not-past, pad-code, end-code, a-code, much, not-much, full, not-full, room-left}
 
 -- two bytes for each part
@@ -106,33 +106,57 @@ module _ (bytes room : List ℕ) (place : ℕ) where
       unfolding writeSlice writeChecks
       slice-left = given-left (writeSlice bytes room place) room place _ slice-given
 
+-- bytes as they stand, into a room
+module _ (bytes room : List ℕ) (place : ℕ) where
+  pub into-2 : mostBytes < length room → answerTo (intoRoom bytes room place) room place ≡ refused 2
+  unfolding intoRoom writeChecks
+  into-2 a = write-refused _ room place (here (long room a))
+
+  module _ (a : length room ≤ mostBytes) where
+    pub into-4 : length room < place → answerTo (intoRoom bytes room place) room place ≡ refused 4
+    unfolding intoRoom writeChecks
+    into-4 b = write-refused _ room place (later (not-long room a) (here (past place room b)))
+
+    module _ (b : place ≤ length room) where
+      pub into-8 : length room < place + length bytes → answerTo (intoRoom bytes room place) room place ≡ refused 8
+      unfolding intoRoom writeChecks
+      into-8 c = write-refused _ room place (later (not-long room a) (later (not-past place room b) (here (full room place bytes c))))
+
+      module _ (c : place + length bytes ≤ length room) where
+        pub into-given : answerTo (intoRoom bytes room place) room place ≡ given (place + length bytes)
+        unfolding intoRoom writeChecks
+        into-given =
+            write-given (intoRoom bytes room place) room place
+            (next (not-long room a) (next (not-past place room b) (next (not-full room place bytes c) done)))
+
+        pub into-left : roomAfter (intoRoom bytes room place) room place ≡ over room place bytes
+        unfolding intoRoom writeChecks
+        into-left = given-left (intoRoom bytes room place) room place _ into-given
+
 -- End
 module _ (room : List ℕ) (place : ℕ) where
   pub close-2 : mostBytes < length room → answerTo (close room place) room place ≡ refused 2
-  unfolding close writeChecks
-  close-2 a = write-refused _ room place (here (long room a))
+  unfolding close
+  close-2 a = into-2 (endCode ∷ []) room place a
 
   module _ (a : length room ≤ mostBytes) where
     pub close-4 : length room < place → answerTo (close room place) room place ≡ refused 4
-    unfolding close writeChecks
-    close-4 b = write-refused _ room place (later (not-long room a) (here (past place room b)))
+    unfolding close
+    close-4 b = into-4 (endCode ∷ []) room place a b
 
     module _ (b : place ≤ length room) where
       pub close-8 : length room < place + 1 → answerTo (close room place) room place ≡ refused 8
-      unfolding close writeChecks
-      close-8 c =
-          write-refused _ room place (later (not-long room a) (later (not-past place room b) (here (full room place (endCode ∷ []) c))))
+      unfolding close
+      close-8 c = into-8 (endCode ∷ []) room place a b c
 
       module _ (c : place + 1 ≤ length room) where
         pub close-given : answerTo (close room place) room place ≡ given (place + 1)
-        unfolding close writeChecks
-        close-given =
-            write-given (close room place) room place
-            (next (not-long room a) (next (not-past place room b) (next (not-full room place (endCode ∷ []) c) done)))
+        unfolding close
+        close-given = into-given (endCode ∷ []) room place a b c
 
         pub close-left : roomAfter (close room place) room place ≡ over room place (endCode ∷ [])
-        unfolding close writeChecks
-        close-left = given-left (close room place) room place _ close-given
+        unfolding close
+        close-left = into-left (endCode ∷ []) room place a b c
 
 -- a byte value
 module _ (code : ℕ) (v room : List ℕ) (place : ℕ) where

@@ -51,6 +51,10 @@ writeBytes code v room place =
       bytes = encode mostPart code v;
     }
 
+-- some bytes as they stand, into a room
+unfoldable pub intoRoom : List ℕ → List ℕ → ℕ → Write
+intoRoom bytes room place = record { checks = check (tooLong room) 2 ∷ check (pastEnd place room) 4 ∷ []; bytes = bytes }
+
 -- End (RFC 2132, section 3.2)
 unfoldable pub close : List ℕ → ℕ → Write
-close room place = record { checks = check (tooLong room) 2 ∷ check (pastEnd place room) 4 ∷ []; bytes = endCode ∷ [] }
+close room place = intoRoom (endCode ∷ []) room place

@@ -1,0 +1,5 @@
+pub mod Adding
+pub mod Decimal
+pub mod Telling
+pub mod Whole
+pub mod Unique

@@ -1,0 +1,4 @@
+pub mod Words
+pub mod Listing
+pub mod Told
+pub mod Adding

@@ -1,0 +1,232 @@
+// The listing of a message as text, written into a lent room: a line for the header, one for the hardware address, one for each option,
+// and the stop.
+mod pen;
+
+ghost use mathlib.Core.Path.{_≡_};
+ghost use lib.ListN.{length};
+ghost use Rattle.rfc.specs.Header as rfc;
+ghost use Rattle.rfc.specs.Writing.{intoRoom};
+ghost use Rattle.encoder.specs.Written.{Wrote};
+ghost use Rattle.borrowed.specs.Walked.{stopOf};
+ghost use Rattle.lines.specs.Listing.{named, messageLine, addressText, chaddrLine, areaLines, listing};
+ghost use Rattle.lines.specs.Listing.{refusedLine, optionLine, stopWord, stopLine, linesIn};
+ghost use Rattle.lines.specs.Adding.{addsAll};
+ghost use Rattle.lines.specs.Told.{Listed, numberIn, endingOf};
+use borrowed::answer::Step;
+use borrowed::answer::Stop;
+use borrowed::header::Area;
+use borrowed::header::Header;
+use borrowed::header::Number;
+use borrowed::header::Part;
+use encoder::Written;
+use limits::LEAST_MESSAGE;
+use limits::MOST_BYTES;
+
+// The most bytes of a message that is listed, and the room in which its options are joined.
+const MOST_LISTED: usize = 4096;
+
+// Writes the listing of `message` at `place`.
+pub fn write_listing(room: &mut [u8], place: usize, message: &[u8]) -> Written
+    ensures { λ r. ⌜ Wrote (intoRoom (listing (now (message .entry))) (now (room .entry)) place)
+        (now (room .entry)) (now (room .exit)) place r ⌝ }
+{
+    if room.len() > MOST_BYTES {
+        return Written::Refused(2);
+    }
+    if place > room.len() {
+        return Written::Refused(4);
+    }
+    // Outside a room a text is counted and not written: so it is measured.
+    let mut nowhere = [0u8; 1];
+    let size = put_listing(&mut nowhere, 0, message);
+    if size > room.len() - place {
+        return Written::Refused(8);
+    }
+    let to = put_listing(room, place, message);
+    Written::To(to)
+}
+
+// Adds the whole listing.
+fn put_listing(text: &mut [u8], at: usize, message: &[u8]) -> usize
+    ensures { λ r. ⌜ (now (text .exit), r) ≡ addsAll (now (text .entry), at) (listing (now (message .entry))) ⌝ }
+{
+    if message.len() > MOST_LISTED {
+        return pen::put_word(text, at, b"too long\n");
+    }
+    if message.len() < LEAST_MESSAGE {
+        return put_refused(text, at, 1);
+    }
+    let address = put_message(text, at, message);
+    let options = put_chaddr(text, address, message);
+    put_area(text, options, message)
+}
+
+// Adds the line of a refusal.
+fn put_refused(text: &mut [u8], at: usize, number: u8) -> usize
+    ensures { λ r. ⌜ (now (text .exit), r) ≡ addsAll (now (text .entry), at) (refusedLine number) ⌝ }
+{
+    let to = pen::put_named(text, at, b"refused ", number as usize);
+    pen::put_word(text, to, b"\n")
+}
+
+// Adds the line of the message's length and of four numbers of its header.
+fn put_message(text: &mut [u8], at: usize, message: &[u8]) -> usize
+    requires { ⌜ Listed (now message) ⌝ }
+    ensures { λ r. ⌜ (now (text .exit), r) ≡ addsAll (now (text .entry), at) (messageLine (now (message .entry))) ⌝ }
+{
+    let op = pen::put_named(text, at, b"message ", message.len());
+    let htype = put_field(text, op, b" op ", Header::op(message));
+    let hlen = put_field(text, htype, b" htype ", Header::htype(message));
+    let xid = put_field(text, hlen, b" hlen ", Header::hlen(message));
+    let end = put_field(text, xid, b" xid ", Header::xid(message));
+    pen::put_word(text, end, b"\n")
+}
+
+// Adds a field's name and its number.
+fn put_field(text: &mut [u8], at: usize, name: &[u8], field: Number) -> usize
+    ensures { λ r. ⌜ (now (text .exit), r) ≡ addsAll (now (text .entry), at) (named (now (name .entry)) (numberIn field)) ⌝ }
+{
+    let number = number_in(field);
+    pen::put_named(text, at, name, number)
+}
+
+// A number of the header.
+fn number_in(number: Number) -> usize
+    ensures { λ r. ⌜ r ≡ numberIn number ⌝ }
+{
+    match number {
+        Number::Is(n) => n as usize,
+        // No message that is listed comes here.
+        Number::Refused(_) => 0,
+    }
+}
+
+// Adds the line of the hardware address.
+fn put_chaddr(text: &mut [u8], at: usize, message: &[u8]) -> usize
+    ensures { λ r. ⌜ (now (text .exit), r) ≡ addsAll (now (text .entry), at) (chaddrLine (now (message .entry))) ⌝ }
+{
+    let to = pen::put_word(text, at, b"chaddr");
+    put_address(text, to, message)
+}
+
+// Adds the bytes of the hardware address, or its refusal.
+fn put_address(text: &mut [u8], at: usize, message: &[u8]) -> usize
+    ensures { λ r. ⌜ (now (text .exit), r)
+        ≡ addsAll (now (text .entry), at) (addressText (now (message .entry)) (rfc.chaddr (now (message .entry)))) ⌝ }
+{
+    match Header::chaddr(message) {
+        Part::Refused(number) => {
+            let to = pen::put_word(text, at, b" ");
+            put_refused(text, to, number)
+        }
+        Part::At { start, len } => {
+            let end = pen::put_spaced(text, at, borrowed::part(message, start, len));
+            pen::put_word(text, end, b"\n")
+        }
+    }
+}
+
+// Adds the lines of the options.
+fn put_area(text: &mut [u8], at: usize, message: &[u8]) -> usize
+    ensures { λ r. ⌜ (now (text .exit), r)
+        ≡ addsAll (now (text .entry), at) (areaLines (now (message .entry)) (rfc.area (now (message .entry)))) ⌝ }
+{
+    match Header::area(message) {
+        Area::Refused(number) => put_refused(text, at, number),
+        Area::WrongMagic => pen::put_word(text, at, b"magic wrong\n"),
+        Area::At { start, len } => {
+            let mut join = [0u8; MOST_LISTED];
+            put_options(
+                text,
+                at,
+                borrowed::part(message, start, len),
+                &mut join,
+                message.len(),
+            )
+        }
+    }
+}
+
+// Adds a line for each option, and the ending, in no more than so many calls of the walk.
+fn put_options(text: &mut [u8], at: usize, area: &[u8], join: &mut [u8], calls: usize) -> usize
+    ensures { λ r. ⌜ (now (text .exit), r)
+        ≡ addsAll (now (text .entry), at) (linesIn calls (length (now (join .entry))) (now (area .entry)) 0) ⌝ }
+{
+    let mut to = at;
+    let mut place: usize = 0;
+    let mut left = calls;
+    while left > 0 {
+        left -= 1;
+        let found = borrowed::step(area, place, join);
+        let Step::Found {
+            code,
+            parts,
+            len,
+            place: next,
+        } = found
+        else {
+            return put_ending(text, to, found);
+        };
+        to = put_option(
+            text,
+            to,
+            code,
+            parts,
+            borrowed::value(area, join, parts, len, next),
+        );
+        place = next;
+    }
+    to
+}
+
+// Adds the line of an option.
+fn put_option(text: &mut [u8], at: usize, code: u8, parts: usize, value: &[u8]) -> usize
+    ensures { λ r. ⌜ (now (text .exit), r) ≡ addsAll (now (text .entry), at) (optionLine code (now (value .entry)) parts) ⌝ }
+{
+    let kind = pen::put_named(text, at, b"option ", code as usize);
+    let counted = pen::put_named(text, kind, b" kind ", kinds::kind_of(code) as usize);
+    let shown = pen::put_named(text, counted, b" parts ", parts);
+    let bytes = pen::put_word(text, shown, b" value");
+    let end = pen::put_spaced(text, bytes, value);
+    pen::put_word(text, end, b"\n")
+}
+
+// Adds the line of what ended the walk.
+fn put_ending(text: &mut [u8], at: usize, found: Step) -> usize
+    ensures { λ r. ⌜ (now (text .exit), r) ≡ addsAll (now (text .entry), at) (endingOf found) ⌝ }
+{
+    match found {
+        Step::Stopped(stop, place) => put_stop(text, at, stop, place),
+        Step::Refused(number) => put_refused(text, at, number),
+        Step::Needs(_) => put_refused(text, at, 5),
+        // No option comes here.
+        Step::Found {
+            code: _,
+            parts: _,
+            len: _,
+            place: _,
+        } => at,
+    }
+}
+
+// Adds the line of a stop and its place.
+fn put_stop(text: &mut [u8], at: usize, stop: Stop, place: usize) -> usize
+    ensures { λ r. ⌜ (now (text .exit), r) ≡ addsAll (now (text .entry), at) (stopLine (stopOf stop) place) ⌝ }
+{
+    let number = put_stop_word(text, at, stop);
+    let end = pen::put_decimal(text, number, place);
+    pen::put_word(text, end, b"\n")
+}
+
+// Adds the name of a stop.
+fn put_stop_word(text: &mut [u8], at: usize, stop: Stop) -> usize
+    ensures { λ r. ⌜ (now (text .exit), r) ≡ addsAll (now (text .entry), at) (stopWord (stopOf stop)) ⌝ }
+{
+    match stop {
+        Stop::Out => pen::put_word(text, at, b"stop out "),
+        Stop::End => pen::put_word(text, at, b"stop end "),
+        Stop::CutLength => pen::put_word(text, at, b"stop cut length "),
+        Stop::CutValue => pen::put_word(text, at, b"stop cut value "),
+        Stop::CutContinuation => pen::put_word(text, at, b"stop cut continuation "),
+    }
+}
