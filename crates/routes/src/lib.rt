@@ -27,7 +27,8 @@ const ADDRESS: usize = 4;
 // What the highest of them counts.
 const HIGHEST: u32 = 16777216;
 
-// A route: the width of its subnet mask, its destination and its gateway.
+// A route: the width of its subnet mask, its destination and its gateway. Programs in other languages lend tables of it.
+#[repr(C)]
 pub struct Route {
     pub width: u8,
     pub destination: u32,
