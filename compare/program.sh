@@ -1,0 +1,99 @@
+# Shared by the commands of this folder, which source it: `run_program PROFILE NAME [ARGUMENT..]` makes all that the
+# programs of compare/src/bin need, and runs one of them; PROFILE is release or debug. `run_tests` runs the tests.
+# Paths among the arguments are taken from where the command was called.
+
+compare_target=x86_64-unknown-linux-gnu
+compare_caller=$PWD
+compare_root=$(cd "$(dirname "$0")/.." && pwd) || exit 1
+compare_archive=target/staticlib/libsindovaleph.a
+
+# Says a sentence on standard error, and ends.
+give_up() {
+    echo "compare/$(basename "$0"): $1" >&2
+    exit 1
+}
+
+# The Rust toolchain has to be there, with the standard library of x86-64 Linux, for which the library is built.
+need_rust() {
+    command -v cargo >/dev/null || give_up "cargo is missing: install a Rust toolchain"
+    command -v "${RUSTC:-rustc}" >/dev/null || give_up "rustc is missing: install a Rust toolchain"
+    libdir=$("${RUSTC:-rustc}" --print target-libdir --target $compare_target 2>/dev/null)
+    for std in "$libdir"/libstd-*; do
+        [ -e "$std" ] && return
+    done
+    give_up "the Rust toolchain has no standard library for $compare_target: add that target to it"
+}
+
+# The static library, built where it is missing or older than a source of a crate.
+make_library() {
+    newer=$(find crates.txt crates -newer $compare_archive 2>/dev/null | grep -E '\.(rt|antt|txt)$' | head -n 1)
+    if [ -f $compare_archive ] && [ -z "$newer" ]; then
+        return
+    fi
+    command -v rt >/dev/null || give_up "rt is missing: the library is built by it (rt staticlib sindovaleph)"
+    echo "Building the library (rt staticlib sindovaleph): this takes a minute." >&2
+    rt staticlib sindovaleph >&2 || give_up "the library could not be built: rt staticlib sindovaleph failed"
+    [ -f $compare_archive ] || give_up "rt staticlib sindovaleph did not write $compare_archive"
+    touch $compare_archive
+}
+
+# The crate and all that it needs, unpacked where the archive is at hand.
+unpack_crates() {
+    crates=${RUST_CRATES:-$compare_root/../shared/rust-crates.tar.xz}
+    case "$crates" in /*) ;; *) crates=$compare_caller/$crates ;; esac
+    if [ ! -f "$crates" ]; then
+        [ -z "${RUST_CRATES:-}" ] || give_up "there is no file $crates, which RUST_CRATES names"
+        return
+    fi
+    if [ ! -d target/rust-crates ] || [ -n "$(find "$crates" -newer target/rust-crates)" ]; then
+        rm -rf target/unpacking
+        mkdir -p target/unpacking
+        tar xf "$crates" -C target/unpacking || give_up "$crates could not be unpacked"
+        [ -d target/unpacking/rust-crates ] || give_up "$crates holds no folder rust-crates"
+        rm -rf target/rust-crates
+        mv target/unpacking/rust-crates target/rust-crates
+        rmdir target/unpacking
+        touch target/rust-crates
+    fi
+    offline=yes
+}
+
+# Cargo on this folder: a subcommand and its arguments, from the archive's crates where they are at hand.
+cargo_here() {
+    subcommand=$1
+    shift
+    set -- --manifest-path "$compare_root/compare/Cargo.toml" --target $compare_target "$@"
+    if [ -n "${offline:-}" ]; then
+        set -- --offline --config 'source.crates-io.replace-with="local"' \
+            --config "source.local.directory=\"$compare_root/target/rust-crates\"" "$@"
+    fi
+    CARGO_TARGET_DIR="$compare_root/target/compare" cargo "$subcommand" "$@"
+}
+
+# All that is needed before cargo.
+prepare() {
+    cd "$compare_root" || exit 1
+    mkdir -p target
+    need_rust
+    make_library
+    unpack_crates
+}
+
+run_program() {
+    if [ "$1" = release ]; then profile=--release; else profile=; fi
+    name=$2
+    shift 2
+    prepare
+    [ -d target/compare ] || echo "Building the comparison: this takes a minute." >&2
+    if ! cargo_here build -q $profile --bin "$name" >target/compare.log 2>&1; then
+        tail -n 20 target/compare.log >&2
+        give_up "the comparison could not be built; target/compare.log has all that cargo said"
+    fi
+    cd "$compare_caller" || exit 1
+    cargo_here run -q $profile --bin "$name" -- "$@"
+}
+
+run_tests() {
+    prepare
+    cargo_here test "$@"
+}

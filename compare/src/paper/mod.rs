@@ -1,0 +1,43 @@
+//! Document 01's rules, written plainly: what each call has to answer, and what it leaves in lent memory.
+//! Nothing here calls the library or the crate; only the shapes of the answers are the boundary's.
+
+mod header;
+mod kinds;
+mod listing;
+mod text;
+mod values;
+mod walk;
+mod writing;
+
+pub use header::{area, chaddr, file, header, sname};
+pub use kinds::{element_size, kind_of};
+pub use listing::{listed_option, listed_stop, no_listing, number_list};
+pub use text::is_utf8;
+pub use values::{element, read};
+pub use walk::{Found, find, step};
+pub use writing::{close, routes_value, typed_bytes, write_bytes, write_listing, write_routes, write_typed};
+
+/// The fewest bytes of a message.
+pub const LEAST_MESSAGE: usize = 240;
+
+/// The most bytes of a message, an area, a room or a value to be read.
+pub const MOST_BYTES: usize = 65_535;
+
+/// The most bytes of a value to be written.
+pub const MOST_VALUE: usize = 4_080;
+
+/// The code that has no length and fills.
+pub const PAD: u8 = 0;
+
+/// The code that has no length and ends.
+pub const END: u8 = 255;
+
+/// The number of the first check that holds, 0 where none does.
+fn first_refusal(checks: &[(bool, u8)]) -> u8 {
+    checks.iter().find(|check| check.0).map_or(0, |check| check.1)
+}
+
+/// The number that bytes are, the first the highest.
+fn big_endian(bytes: &[u8]) -> u32 {
+    bytes.iter().fold(0, |number, &byte| number << 8 | u32::from(byte))
+}

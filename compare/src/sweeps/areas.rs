@@ -1,0 +1,48 @@
+//! Every short area over a small alphabet, from every place, and listed.
+
+use super::made;
+use crate::cases::Bench;
+use dhcproto::v4::borrowed::DhcpOptionIterator;
+
+/// Pad, lengths that are also codes, a text's code, End.
+const ALPHABET: [u8; 6] = [0, 1, 2, 3, 12, 255];
+
+const LONGEST: usize = 6;
+
+/// Join buffers that are tried beside the ones around what is needed.
+const JOIN_SIZES: [usize; 3] = [0, 1, 40];
+
+/// The next area of the same length, counted like a number; false behind the last.
+fn next_area(digits: &mut [usize]) -> bool {
+    for digit in digits.iter_mut() {
+        *digit += 1;
+        if *digit < ALPHABET.len() {
+            return true;
+        }
+        *digit = 0;
+    }
+    false
+}
+
+fn from_every_place(bench: &mut Bench, area: &[u8]) {
+    bench.walk(area, DhcpOptionIterator::new(area));
+    for place in 0..=area.len() + 1 {
+        bench.call_at(area, place, &JOIN_SIZES);
+    }
+    bench.call_at(area, usize::MAX, &[]);
+    bench.listing(&[&made::header(), area].concat());
+}
+
+/// All of them.
+pub fn sweep(bench: &mut Bench) {
+    for len in 0..=LONGEST {
+        let mut digits = vec![0; len];
+        loop {
+            let area: Vec<u8> = digits.iter().map(|&digit| ALPHABET[digit]).collect();
+            from_every_place(bench, &area);
+            if !next_area(&mut digits) {
+                break;
+            }
+        }
+    }
+}

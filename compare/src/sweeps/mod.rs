@@ -1,0 +1,36 @@
+//! The inputs of `compare/run`: what is gone over whole, and random messages.
+
+mod areas;
+mod headers;
+mod limits;
+mod made;
+mod messages;
+mod routes;
+mod texts;
+mod values;
+mod writes;
+mod written;
+
+use crate::cases::Bench;
+
+/// What goes over some inputs whole.
+type Sweep = fn(&mut Bench);
+
+/// Everything that is gone over whole.
+pub fn whole(bench: &mut Bench) {
+    let sweeps: [(&str, Sweep); 7] = [
+        ("short areas", areas::sweep),
+        ("headers", headers::sweep),
+        ("texts", texts::sweep),
+        ("typed reading", values::sweep),
+        ("writing", writes::sweep),
+        ("routes", routes::sweep),
+        ("limits", limits::sweep),
+    ];
+    for (work, sweep) in sweeps {
+        bench.progress.begin(work);
+        sweep(bench);
+    }
+}
+
+pub use messages::random;
