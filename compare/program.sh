@@ -95,5 +95,5 @@ run_program() {
 
 run_tests() {
     prepare
-    cargo_here test "$@"
+    cargo_here test --lib "$@"
 }
