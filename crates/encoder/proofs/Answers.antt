@@ -1,14 +1,14 @@
 -- A writer's answers, for any write: a refusal, a success, and what its contract tells a caller.
 -- Assumes nothing.
-use mathlib.Core.Path.{_≡_, sym, _∙_, subst}
-use Prim.Native.Nat.{ℕ, _+_, _≤_}
+use mathlib.Core.Path.{_≡_, sym, ap, _∙_, subst}
+use Prim.Native.Nat.{ℕ, _+_, _≤_, _<_}
 use mathlib.Core.List.{List}
 use lib.ListN.{length}
 use native.Mathlib.Omega.{arith}
 use Rattle.facts.specs.Over.{over}
 use Rattle.rfc.specs.Numbers.{given, refused}
 use Rattle.rfc.specs.Writing.{Write, answerTo, roomAfter, writeSlice}
-use Rattle.rfc.proofs.Writing.{refused-left, slice-left}
+use Rattle.rfc.proofs.Writing.{refused-left, slice-8, slice-given, slice-left}
 use Rattle.encoder.specs.Written.{says, Wrote}
 use Rattle.encoder.specs.declared.Written.{Written}
 use Rattle.encoder.specs.declared.Written.the-variants.{To, Refused}
@@ -34,6 +34,24 @@ says-one (Refused a) (Refused b) e = cc
 pub wrote-one : {w : Write} {room r₁ r₂ : List ℕ} {place : ℕ} {a b : Written}
     → Wrote w room r₁ place a → Wrote w room r₂ place b → (a ≡ b) × (r₁ ≡ r₂)
 wrote-one {a = a} {b = b} p q = (says-one a b (p .told ∙ sym (q .told)), p .left ∙ sym (q .left))
+
+-- a write that answers as another does, and leaves what it leaves
+pub same-wrote : {w w′ : Write} {room room′ : List ℕ} {place : ℕ} {r : Written}
+    → (answerTo w room place ≡ answerTo w′ room place) × (roomAfter w room place ≡ roomAfter w′ room place)
+    → Wrote w room room′ place r → Wrote w′ room room′ place r
+same-wrote same o = record { told = o .told ∙ same .0; left = o .left ∙ same .1 }
+
+-- bytes as they stand, at a place of the room: they do not fit, or they are put
+module _ (bytes room : List ℕ) (place : ℕ) (within : place ≤ length room) where
+  pub no-room : length room < place + length bytes → Wrote (writeSlice bytes room place) room room place (Refused 8)
+  no-room h = refuses _ room place 8 (slice-8 bytes room place within h)
+
+  pub puts : {room′ : List ℕ} (to : ℕ) → place + length bytes ≤ length room
+      → to ≡ place + length bytes → room′ ≡ over room place bytes
+      → Wrote (writeSlice bytes room place) room room′ place (To to)
+  puts {room′} to h e p =
+      writes _ room place room′ to
+      (slice-given bytes room place within h ∙ ap given (sym e)) (slice-left bytes room place within h ∙ sym p)
 
 -- bytes that fit are put over what stood there
 pub put-over : (bytes room room′ : List ℕ) (place : ℕ) (r : Written) → place + length bytes ≤ length room

@@ -16,6 +16,8 @@ use Rattle.encoder.proofs.u32_bytes.Kinds as u32-bytes-kinds
 use Rattle.encoder.proofs.u32_bytes.Reads as u32-bytes
 use Rattle.encoder.proofs.i32_bytes.Kinds as i32-bytes-kinds
 use Rattle.encoder.proofs.i32_bytes.Reads as i32-bytes
+use Rattle.encoder.proofs.bits_of.Kinds as bits-of-kinds
+use Rattle.encoder.proofs.bits_of.Reads as bits-of
 
 write-slice-unique : UniqueLeft 2 write-slice-kinds.ps write-slice-kinds.r write-slice.Post (λ κs s. now (s .0))
 write-slice-unique κs a x y s t p q = wrote-one p q
@@ -34,3 +36,6 @@ u32-bytes-unique κs a x y s t p q = p ∙ sym q
 
 i32-bytes-unique : Unique 0 i32-bytes-kinds.ps i32-bytes-kinds.r i32-bytes.Post
 i32-bytes-unique κs a x y s t p q = p ∙ sym q
+
+bits-of-unique : Unique 0 bits-of-kinds.ps bits-of-kinds.r bits-of.Post
+bits-of-unique κs a x y s t p q = p ∙ sym q

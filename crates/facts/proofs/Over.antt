@@ -80,6 +80,44 @@ over-next d at all p n h g e =
     ∙ ap (λ (x : List ℕ). over d at (take n all ++ x)) (sym e)
     ∙ ap (over d at) (sym (take-add n (length p) all))
 
+-- a write hides a shorter one at its place
+over-hides : (d : List ℕ) (at : ℕ) (a b : List ℕ) → at + length a ≤ length d → length a ≤ length b
+    → over (over d at a) at b ≡ over d at b
+unfolding over
+over-hides d at a b h g =
+    let k : at + length a + (length b - length a) ≡ at + length b = omega arith in
+    let all : List ℕ = over d at a in
+    let behind : drop (at + length b) all ≡ drop (at + length b) d =
+    ap (λ (n : ℕ). drop n all) (sym k)
+    ∙ sym (drop-drop (length b - length a) (at + length a) all)
+    ∙ ap (drop (length b - length a)) (behind-over d at a h)
+    ∙ drop-drop (length b - length a) (at + length a) d
+    ∙ ap (λ (n : ℕ). drop n d) k in
+    ap (λ (x : List ℕ). x ++ b ++ drop (at + length b) all) (before-over d at a h)
+    ∙ ap (λ (x : List ℕ). take at d ++ b ++ x) behind
+
+-- the n elements from the kth on, where of what is to be written the first j stand already: the first k, and maybe some of these n
+module _ (d : List ℕ) (at : ℕ) (s : List ℕ) (k n : ℕ) (fits : at + (k + n) ≤ length d) (there : k + n ≤ length s) where
+  part-length : (m : ℕ) → m ≤ n → length (take m (drop k s)) ≡ m
+  part-length m h = length-take-le m (drop k s) (omega (arith, length-drop k s))
+
+  part-next : (m : ℕ) → m ≤ n → over (over d at (take k s)) (at + k) (take m (drop k s)) ≡ over d at (take (k + m) s)
+  part-next m h =
+      let l = part-length m h in
+      over-next d at s (take m (drop k s)) k (omega arith) (omega arith) (ap (λ (i : ℕ). take i (drop k s)) l)
+      ∙ ap (λ (i : ℕ). over d at (take (k + i) s)) l
+
+  pub over-lap : (j : ℕ) → k ≤ j → j ≤ k + n → over (over d at (take j s)) (at + k) (take n (drop k s)) ≡ over d at (take (k + n) s)
+  over-lap j g h =
+      let e : k + (j - k) ≡ j = omega arith in
+      let a = part-length (j - k) (omega arith) in
+      let b = part-length n (omega arith) in
+      let l = length-over d at (take k s) (omega (arith, length-take-le k s (omega arith))) in
+      ap (λ (i : ℕ). over (over d at (take i s)) (at + k) (take n (drop k s))) (sym e)
+      ∙ ap (λ (x : List ℕ). over x (at + k) (take n (drop k s))) (sym (part-next (j - k) (omega arith)))
+      ∙ over-hides (over d at (take k s)) (at + k) (take (j - k) (drop k s)) (take n (drop k s)) (omega arith) (omega arith)
+      ∙ part-next n (omega arith)
+
 -- a store is a write of one element
 pub set-over : (d : List ℕ) (at b : ℕ) → at < length d → set d at b ≡ over d at (b ∷ [])
 unfolding over

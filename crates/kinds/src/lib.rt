@@ -1,7 +1,9 @@
-// The kind of each option code, and the bytes in one element of a kind. Other crates know both by the contracts of the two functions, not
-// by the tables.
+// The kind of each option code, and the bytes in one element of a kind. Other crates know both by the contracts of the functions, not by
+// the tables.
 ghost use mathlib.Core.Path.{_≡_};
+ghost use Prim.Native.Nat.{_<_};
 ghost use Rattle.rfc.specs.Kinds.{kindOf, sizeOf};
+ghost use Rattle.kinds.specs.Words.{wordOf};
 
 // The kinds by their numbers.
 pub const RAW: u8 = 0;
@@ -299,11 +301,44 @@ const KINDS: [u8; 256] = [
 // The bytes in one element, by kind 0 to 15.
 const SIZES: [usize; 16] = [1, 4, 4, 8, 1, 1, 2, 2, 4, 4, 1, 1, 1, 1, 3, 0];
 
-// The kind of a code, 0 to 15.
-pub fn kind_of(code: u8) -> u8
+// The kind of a code, 0 to 15, out of the table, which the compiler builds on the stack before it reads one number of it.
+pub fn kind_in_table(code: u8) -> u8
     ensures { λ r. ⌜ r ≡ kindOf code ⌝ }
 {
     KINDS[code as usize]
+}
+
+// The same out of the word of the code's group, with no table on the stack.
+pub fn kind_of(code: u8) -> u8
+    ensures { λ r. ⌜ r ≡ kindOf code ⌝ }
+{
+    ((word_of(code / 16) >> (code % 16 * 4)) % 16) as u8
+}
+
+// The kinds of a group of sixteen codes, four bits each, so that each digit is a kind, and the last digit is the kind of the first code.
+// Group 0 has the codes 0 to 15, group 1 has 16 to 31, and so on.
+fn word_of(group: u8) -> u64
+    requires { ⌜ group < 16 ⌝ }
+    ensures { λ r. ⌜ r ≡ wordOf group ⌝ }
+{
+    match group {
+        0 => 0xaa6a222222222910,
+        1 => 0x5551567846355aa1,
+        2 => 0xac22022a58458531,
+        3 => 0x0a00886ab1d48122,
+        4 => 0x000222222222002a,
+        5 => 0x0e6280200000000f,
+        6 => 0x0000080000aa0000,
+        7 => 0x0000000001000a00,
+        8 => 0x0000000000000000,
+        9 => 0x0000888801000000,
+        10 => 0x0000000000000000,
+        11 => 0x0000000000000000,
+        12 => 0x0000000000000000,
+        13 => 0x0000000000000000,
+        14 => 0x0000000000000000,
+        _ => 0x0000000000000000,
+    }
 }
 
 // The bytes in one element of a kind; a number that is no kind has none.

@@ -95,7 +95,7 @@ fn number_in(number: Number) -> usize
     ensures { λ r. ⌜ r ≡ numberIn number ⌝ }
 {
     match number {
-        Number::Is(n) => n as usize,
+        Number::Is(n) => n,
         // No message that is listed comes here.
         Number::Refused(_) => 0,
     }
@@ -184,7 +184,7 @@ fn put_option(text: &mut [u8], at: usize, code: u8, parts: usize, value: &[u8]) 
     ensures { λ r. ⌜ (now (text .exit), r) ≡ addsAll (now (text .entry), at) (optionLine code (now (value .entry)) parts) ⌝ }
 {
     let kind = pen::put_named(text, at, b"option ", code as usize);
-    let counted = pen::put_named(text, kind, b" kind ", kinds::kind_of(code) as usize);
+    let counted = pen::put_named(text, kind, b" kind ", kinds::kind_in_table(code) as usize);
     let shown = pen::put_named(text, counted, b" parts ", parts);
     let bytes = pen::put_word(text, shown, b" value");
     let end = pen::put_spaced(text, bytes, value);

@@ -6,7 +6,7 @@ ghost use Prim.Native.Nat.{_+_, _≤_, min};
 ghost use lib.ListN.{length, take, drop};
 ghost use Rattle.facts.specs.Over.{over};
 ghost use Rattle.rfc.specs.Numbers.{mostPart};
-ghost use Rattle.rfc.specs.Writing.{encode, writeBytes, close};
+ghost use Rattle.rfc.specs.Writing.{encode, writeSlice, writeBytes, close};
 ghost use Rattle.encoder.specs.Written.{Wrote};
 use encoder::Written;
 use limits::MOST_BYTES;
@@ -32,13 +32,10 @@ pub fn write_bytes(room: &mut [u8], place: usize, code: u8, value: &[u8]) -> Wri
     if value.len() > MOST_VALUE {
         return Written::Refused(7);
     }
-    let size = value.len() + 2 * ((value.len() + (MOST_PART - 1)) / MOST_PART);
-    if size > room.len() - place {
-        return Written::Refused(8);
+    if value.len() > MOST_PART {
+        return write_parts(room, place, code, value);
     }
-    let to = place + size;
-    put_parts(room, place, code, value);
-    Written::To(to)
+    write_part(room, place, code, value)
 }
 
 // Writes End at `place`.
@@ -56,6 +53,38 @@ pub fn close(room: &mut [u8], place: usize) -> Written
     }
     let to = place + 1;
     room[place] = 255;
+    Written::To(to)
+}
+
+// Writes a value of any length in its parts, if they fit.
+fn write_parts(room: &mut [u8], place: usize, code: u8, value: &[u8]) -> Written
+    requires { ⌜ place ≤ length (now room) ⌝ }
+    ensures { λ r. ⌜ Wrote (writeSlice (encode mostPart code (now (value .entry))) (now (room .entry)) place)
+        (now (room .entry)) (now (room .exit)) place r ⌝ }
+{
+    let size = value.len() + 2 * ((value.len() + (MOST_PART - 1)) / MOST_PART);
+    if size > room.len() - place {
+        return Written::Refused(8);
+    }
+    let to = place + size;
+    put_parts(room, place, code, value);
+    Written::To(to)
+}
+
+// Writes a value of at most one part, if it fits: an empty one is no part.
+fn write_part(room: &mut [u8], place: usize, code: u8, value: &[u8]) -> Written
+    requires { ⌜ (place ≤ length (now room)) × (length (now value) ≤ mostPart) ⌝ }
+    ensures { λ r. ⌜ Wrote (writeSlice (encode mostPart code (now (value .entry))) (now (room .entry)) place)
+        (now (room .entry)) (now (room .exit)) place r ⌝ }
+{
+    if value.len() == 0 {
+        return Written::To(place);
+    }
+    if value.len() + 2 > room.len() - place {
+        return Written::Refused(8);
+    }
+    let to = place + value.len() + 2;
+    put_part(room, place, code, value, 0, value.len());
     Written::To(to)
 }
 

@@ -1,18 +1,19 @@
 -- The laws of `specs/Header.antt`: which messages are refused, and what each reading of the others answers.
 -- Assumes nothing.
-use mathlib.Core.Path.{_≡_, refl, ap, _∙_, subst}
+use mathlib.Core.Path.{_≡_, refl, sym, ap, _∙_, subst}
 use Prim.Native.Nat.{ℕ, suc, _+_, _-_, _≤_, _<_}
 use native.Mathlib.Numerals.{add-one}
 use native.Mathlib.Omega.{arith}
 use mathlib.Core.Bool.{Bool, true, false, cond}
-use mathlib.Core.List.{List}
-use lib.ListN.{length, drop, getD, drop-of-length-le}
+use mathlib.Core.List.{List, [], _∷_}
+use lib.Dec.{eqb}
+use lib.ListN.{length, drop, getD, length-take, drop-of-length-le}
 use lib.Seq.{drop-cons}
 use borrow.Author.Tests.{eq-eqb, ne-eqb, lt-ltb, le-ltb, ltb-false}
 use Rattle.facts.specs.BigEndian.{number}
 use Rattle.rfc.specs.Numbers.{given, refused, leastMessage, mostBytes}
 use Rattle.rfc.specs.Header.{Part, part, bytesOf, hlen, chaddrField, snameField, fileField, magicField, messageChecks, field, chaddrPart, chaddrCut, chaddrChecks, chaddr, untilZero, textField, sname, file, magic, magicRight, options, wrongMagic, areaStart, area}
-use Rattle.rfc.proofs.Numbers.{Refuses, here, later, refuses, Clear, done, next, clears, clear-last, passes, refuser, refuses-front, refuses-behind, clear-both, given-no, long, not-long, short, not-short, long-enough}
+use Rattle.rfc.proofs.Numbers.{Refuses, here, later, refuses, Clear, done, next, clears, clear-last, passes, refuses-front, refuses-behind, clear-both, given-no, long, not-long, not-too-long, short, not-short, long-enough}
 
 module _ (message : List ℕ) where
   -- the checks of every reading
@@ -28,10 +29,21 @@ module _ (message : List ℕ) where
   unfolding messageChecks
   message-read h g = next (not-long message h) (next (not-short message g) done)
 
+  -- they know two numbers
+  pub message-refusal : {k : ℕ} → Refuses (messageChecks message) k → k ≤ 2
+  unfolding messageChecks
+  message-refusal (here e) = omega arith
+  message-refusal (later e (here g)) = omega arith
+
   -- a message that is read has the whole header
   pub header-whole : Clear (messageChecks message) → leastMessage ≤ length message
   unfolding messageChecks
   header-whole (next e (next g done)) = long-enough message g
+
+  -- and no more bytes than a message may have
+  pub header-most : Clear (messageChecks message) → length message ≤ mostBytes
+  unfolding messageChecks
+  header-most (next e c) = not-too-long message e
 
   -- a field, and back from its answer
   module _ (f : Part) where
@@ -42,10 +54,6 @@ module _ (message : List ℕ) where
     pub field-given : Clear (messageChecks message) → field f message ≡ given (number (bytesOf f message))
     unfolding field
     field-given c = clears _ c
-
-    refused-field : (k : ℕ) → field f message ≡ refused k → Refuses (messageChecks message) k
-    unfolding field
-    refused-field k e = refuser (messageChecks message) (number (bytesOf f message)) k e
 
     pub given-field : (n : ℕ) → field f message ≡ given n → Clear (messageChecks message) × (number (bytesOf f message) ≡ n)
     unfolding field
@@ -72,23 +80,20 @@ module _ (message : List ℕ) where
   file-text = refl
 
   -- chaddr, by what hlen reads
-  pub chaddr-refused : (k : ℕ) → field hlen message ≡ refused k → chaddr message ≡ refused k
+  pub chaddr-refused : {k : ℕ} → Refuses (messageChecks message) k → chaddr message ≡ refused k
   unfolding chaddr chaddrChecks
-  chaddr-refused k e = refuses _ (refuses-front _ (refused-field hlen k e))
+  chaddr-refused r = refuses _ (refuses-front _ r)
 
-  module _ (n : ℕ) (e : field hlen message ≡ given n) where
+  module _ (c : Clear (messageChecks message)) (n : ℕ) (e : n ≡ number (bytesOf hlen message)) where
     pub chaddr-cut : length message < chaddrField .start + n → chaddr message ≡ refused 3
     unfolding chaddr chaddrChecks chaddrCut chaddrPart
-    chaddr-cut h =
-        let p = given-field hlen n e in
-        refuses _ (refuses-behind (p .0) (here (rw (p .1) (lt-ltb (length message) (28 + n) h))))
+    chaddr-cut h = refuses _ (refuses-behind c (here (rw (sym e) (lt-ltb (length message) (28 + n) h))))
 
     pub chaddr-given : chaddrField .start + n ≤ length message → chaddr message ≡ given (part (chaddrField .start) n)
     unfolding chaddr chaddrChecks chaddrCut chaddrPart
     chaddr-given h =
-        let p = given-field hlen n e in
-        clears _ (clear-both (p .0) (next (rw (p .1) (le-ltb (length message) (28 + n) h)) done))
-        ∙ ap (λ (k : ℕ). given (part 28 k)) (p .1)
+        clears _ (clear-both c (next (rw (sym e) (le-ltb (length message) (28 + n) h)) done))
+        ∙ ap (λ (k : ℕ). given (part 28 k)) (sym e)
 
   -- what is shown is there
   pub chaddr-inside : (p : Part) → chaddr message ≡ given p → p .start + p .len ≤ length message
@@ -100,23 +105,24 @@ module _ (message : List ℕ) where
       subst (λ (x : Part). x .start + x .len ≤ length message) is
       (ltb-false (length message) _ (clear-last (messageChecks message) (chaddrCut message) 3 (q .0)))
 
-  -- the area, by what stands in the magic's place
-  pub area-refused : (k : ℕ) → field magicField message ≡ refused k → area message ≡ refused k
+  -- the magic
+  pub magic-read : magicRight message ≡ eqb (number (bytesOf magicField message)) (number magic)
+  unfolding magicRight
+  magic-read = refl
+
+  -- the area, by the magic
+  pub area-refused : {k : ℕ} → Refuses (messageChecks message) k → area message ≡ refused k
   unfolding area
-  area-refused k e = refuses _ (refused-field magicField k e)
+  area-refused r = refuses _ r
 
-  module _ (n : ℕ) (e : field magicField message ≡ given n) where
-    pub area-wrong : (n ≡ number magic → ⊥) → area message ≡ given wrongMagic
-    unfolding area magicRight
-    area-wrong h =
-        let p = given-field magicField n e in
-        clears _ (p .0) ∙ rw (p .1, ne-eqb n (number magic) h)
+  module _ (c : Clear (messageChecks message)) where
+    pub area-wrong : magicRight message ≡ false → area message ≡ given wrongMagic
+    unfolding area
+    area-wrong e = clears _ c ∙ rw e
 
-    pub area-given : n ≡ number magic → area message ≡ given (options (part areaStart (length message - areaStart)))
-    unfolding area magicRight
-    area-given h =
-        let p = given-field magicField n e in
-        clears _ (p .0) ∙ rw (p .1, eq-eqb n (number magic) h)
+    pub area-given : magicRight message ≡ true → area message ≡ given (options (part areaStart (length message - areaStart)))
+    unfolding area
+    area-given e = clears _ c ∙ rw e
 
   pub area-inside : (p : Part) → area message ≡ given (options p) → p .start + p .len ≤ length message
   unfolding area
@@ -130,6 +136,21 @@ module _ (message : List ℕ) where
           let is : part areaStart (length message - areaStart) ≡ p = cc in
           subst (λ (x : Part). x .start + x .len ≤ length message) is (omega arith)
       go false same h = absurd (let z : _≡_ {A = ℕ} 0 1 = cc in omega arith)
+
+-- no more bytes stand before the first zero than there are
+zero-within : (bytes : List ℕ) → untilZero bytes ≤ length bytes
+unfolding untilZero
+zero-within [] = omega arith
+zero-within (b ∷ rest) = go (eqb b 0) (zero-within rest)
+  where
+    go : (t : Bool) → untilZero rest ≤ length rest → cond t 0 (suc (untilZero rest)) ≤ suc (length rest)
+    go true h = omega arith
+    go false h = omega arith
+
+-- nor than the field has
+pub text-within : (f : Part) (message : List ℕ) → untilZero (bytesOf f message) ≤ f .len
+text-within f message =
+    omega (arith, zero-within (bytesOf f message), length-take (f .len) (drop (f .start) message))
 
 -- the first zero: the next byte is one, or it is none, or there is no next byte
 module _ (bytes : List ℕ) (i : ℕ) where

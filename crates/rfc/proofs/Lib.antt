@@ -8,6 +8,7 @@ pub mod Values
 pub mod Elements
 pub mod Readings
 pub mod Writing
+pub mod Alike
 pub mod Sofar
 pub mod Typed
 pub mod Contents

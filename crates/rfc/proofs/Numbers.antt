@@ -68,7 +68,11 @@ pub clear-both : {cs ds : List Check} → Clear cs → Clear ds → Clear (cs ++
 clear-both done d = d
 clear-both (next e c) d = next e (clear-both c d)
 
--- a refusal stands, whatever would be made of what is given
+-- more is made of what is given; a refusal stands, whatever would be made
+pub given-goes-on : {A B : Type 0} (f : A → Answer B) (a : A) → andThen (given a) f ≡ f a
+unfolding andThen
+given-goes-on f a = refl
+
 pub refused-stands : {A B : Type 0} (f : A → Answer B) (k : ℕ) → andThen (refused k) f ≡ refused k
 unfolding andThen
 refused-stands f k = refl

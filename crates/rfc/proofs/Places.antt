@@ -3,15 +3,15 @@ use mathlib.Core.Path.{_≡_, refl, sym, ap, _∙_}
 use Prim.Native.Nat.{ℕ, suc, zero, _+_, _-_, _*_, _≤_, _<_}
 use native.Mathlib.Omega.{arith}
 use native.Mathlib.Numerals.{add-one, add-two}
-use mathlib.Core.List.{List, [], _∷_, _++_}
+use mathlib.Core.List.{List, [], _∷_, _++_, append-nil}
 use lib.ListN.{length, take, drop, getD, length-take, length-drop, length-append, drop-of-length-le}
 use lib.Seq.{drop-cons, drop-drop, take-append-seam, drop-append-seam, length-take-le}
 use native.Mathlib.Decide.{decLe, decLt, ℕ-discrete}
 use mathlib.Core.Bool.{Bool, true, false, cond}
 use lib.Dec.{eqb, leb}
-use Rattle.rfc.specs.Numbers.{padCode, endCode}
-use Rattle.rfc.specs.Walk.{Run, cut, run, extend, furtherIn, further, joined, walk, stop, out, end, cutLength, cutValue}
-use Rattle.rfc.proofs.Walk.{further-none, further-other, further-no-length, further-no-value, further-more, walk-out, walk-pad, walk-end, walk-code, behind-none, behind-short, behind-whole}
+use Rattle.rfc.specs.Numbers.{given, padCode, endCode}
+use Rattle.rfc.specs.Walk.{Run, cut, run, extend, furtherIn, further, joined, walk, look, Stop, Found, stop, option, out, end, cutLength, cutValue}
+use Rattle.rfc.proofs.Walk.{extend-run, look-walked, further-none, further-other, further-no-length, further-no-value, further-more, walk-out, walk-pad, walk-end, walk-code, behind-none, behind-short, behind-whole}
 
 module _ (area : List ℕ) (i : ℕ) where
   drop-one : i < length area → drop i area ≡ getD area i 0 ∷ drop (i + 1) area
@@ -202,3 +202,101 @@ within-in (suc k) code (b ∷ n ∷ rest) =
 pub run-within : (code : ℕ) (rest : List ℕ) (n : ℕ) (vs : List ℕ) → further code rest ≡ run n vs → 2 * n + length vs ≤ length rest
 unfolding further bytes
 run-within code rest n vs e = omega (arith, within-in (length rest) code rest, ap bytes e)
+
+-- an option stands in the area: it ends at the place `at`, and its n parts with the values v stand before it. With one part its value is
+-- the bytes of the area before the place
+pub record Stands (area : List ℕ) (code : ℕ) (v : List ℕ) (n at : ℕ) : Type 0 where
+  pub within : at ≤ length area
+  pub some : 1 ≤ n
+  pub fits : 2 * n + length v ≤ at
+  pub parts : further code (drop (at - (2 * n + length v)) area) ≡ run n v
+  pub one : n ≡ 1 → v ≡ take (length v) (drop (at - length v) area)
+
+-- what is found is one of the two
+no-option : {A : Type 0} (f : Found) (s : Stop) (p code : ℕ) (v : List ℕ) (n at : ℕ) → f ≡ stop s p → f ≡ option code v n at → A
+no-option f s p code v n at a b = let z : _≡_ {A = ℕ} 0 1 = cc in absurd (let g : ⊥ = omega arith in g)
+
+-- the option that begins with the part at i
+module _ (area : List ℕ) (i : ℕ) (g : i + 2 + getD area (i + 1) 0 ≤ length area) (code : ℕ) (v : List ℕ) (n at : ℕ) where
+  abbrev first : List ℕ
+  first = take (getD area (i + 1) 0) (drop (i + 2) area)
+
+  abbrev behind-first : ℕ
+  behind-first = i + 2 + getD area (i + 1) 0
+
+  stands-run : (m : ℕ) (vs : List ℕ) → getD area i 0 ≡ code → further code (drop behind-first area) ≡ run m vs
+      → first ++ vs ≡ v → m + 1 ≡ n → behind-first + (2 * m + length vs) ≡ at → Stands area code v n at
+  stands-run m vs is r whole count place =
+      let lf : length first ≡ getD area (i + 1) 0 =
+      length-take-le (getD area (i + 1) 0) (drop (i + 2) area) (omega (arith, length-drop (i + 2) area)) in
+      let lv : length v ≡ length first + length vs = ap length (sym whole) ∙ length-append first vs in
+      let in-rest : 2 * m + length vs ≤ length (drop behind-first area) = run-within code _ m vs r in
+      let start : at - (2 * n + length v) ≡ i = omega arith in
+      let more : suc m ≡ n = omega arith in
+      record {
+        within = omega (arith, length-drop behind-first area);
+        some = omega arith;
+        fits = omega arith;
+        parts =
+            ap (λ (k : ℕ). further code (drop k area)) start
+            ∙ further-more-at area i code is g
+            ∙ ap (extend first) r
+            ∙ extend-run first m vs
+            ∙ (λ j. run (more j) (whole j));
+        one = λ e.
+            let z : m ≡ 0 = omega arith in
+            let none : vs ≡ [] = run-none code _ vs (r ∙ ap (λ (k : ℕ). run k vs) z) in
+            let v-is : v ≡ first = sym whole ∙ ap (λ (l : List ℕ). first ++ l) none ∙ append-nil first in
+            let a : getD area (i + 1) 0 ≡ length v = omega (arith, ap length v-is) in
+            let b : i + 2 ≡ at - length v = omega (arith, ap length none) in
+            v-is ∙ (λ j. take (a j) (drop (b j) area));
+      }
+
+  stands-joined : (r : Run) → further (getD area i 0) (drop behind-first area) ≡ r
+      → joined (getD area i 0) first behind-first r ≡ option code v n at → Stands area code v n at
+  unfolding joined
+  stands-joined cut r e = no-option _ _ _ code v n at refl e
+  stands-joined (run m vs) r e =
+      let is : getD area i 0 ≡ code = cc in
+      let whole : first ++ vs ≡ v = cc in
+      let count : m + 1 ≡ n = cc in
+      let place : behind-first + (2 * m + length vs) ≡ at = cc in
+      stands-run m vs is (ap (λ (k : ℕ). further k (drop behind-first area)) (sym is) ∙ r) whole count place
+
+-- an option that the walk finds stands in the area
+module _ (area : List ℕ) (code : ℕ) (v : List ℕ) (n at : ℕ) where
+  abbrev Finds : ℕ → Type 0
+  Finds i = walk i (drop i area) ≡ option code v n at
+
+  -- behind a Pad, or from the part at i on
+  stands-at : (i : ℕ) → i < length area → (Finds (i + 1) → Stands area code v n at) → Finds i → Stands area code v n at
+  stands-at i l onward e = a (ℕ-discrete (getD area i 0) padCode)
+    where
+      c : (getD area i 0 ≡ padCode → ⊥) → (getD area i 0 ≡ endCode → ⊥) → Dec (i + 2 ≤ length area)
+          → Dec (i + 2 + getD area (i + 1) 0 ≤ length area) → Stands area code v n at
+      c z q (no g) w = no-option _ _ _ code v n at (cut-length-at area i l z q (omega arith)) e
+      c z q (yes g) (no w) = no-option _ _ _ code v n at (cut-value-at area i l z q g (omega arith)) e
+      c z q (yes g) (yes w) = stands-joined area i w code v n at _ refl (sym (whole-at area i l z q w) ∙ e)
+
+      b : (getD area i 0 ≡ padCode → ⊥) → Dec (getD area i 0 ≡ endCode) → Stands area code v n at
+      b z (yes q) = no-option _ _ _ code v n at (end-at area i l q) e
+      b z (no q) = c z q (decLe (i + 2) (length area)) (decLe (i + 2 + getD area (i + 1) 0) (length area))
+
+      a : Dec (getD area i 0 ≡ padCode) → Stands area code v n at
+      a (yes z) = onward (sym (pad-at area i l z) ∙ e)
+      a (no z) = b z (ℕ-discrete (getD area i 0) endCode)
+
+  stands-from : (k i : ℕ) → length area ≤ i + k → Finds i → Stands area code v n at
+  stands-from zero i h e = no-option _ _ _ code v n at (out-at area i (omega arith)) e
+  stands-from (suc k) i h e = go (decLt i (length area)) (λ f. stands-from k (i + 1) (omega arith) f)
+    where
+      go : Dec (i < length area) → (Finds (i + 1) → Stands area code v n at) → Stands area code v n at
+      go (yes l) onward = stands-at i l onward e
+      go (no l) onward = no-option _ _ _ code v n at (out-at area i (omega arith)) e
+
+  pub walk-stands : (place : ℕ) → walk place (drop place area) ≡ option code v n at → Stands area code v n at
+  walk-stands place e = stands-from (length area) place (omega arith) e
+
+  -- and so does one that a call finds
+  pub look-stands : (place : ℕ) → look area place ≡ given (option code v n at) → Stands area code v n at
+  look-stands place e = walk-stands place (look-walked area place (option code v n at) e)

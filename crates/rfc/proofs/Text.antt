@@ -1,14 +1,13 @@
 -- The laws of `specs/Text.antt`: what each first byte asks for, and how a text goes on from a place, byte by byte.
 -- Assumes nothing.
 use mathlib.Core.Path.{_≡_, refl, ap, _∙_}
-use mathlib.Core.Bool.{true, false}
+use mathlib.Core.Bool.{Bool, true, false, cond}
 use mathlib.Core.List.{List, [], _∷_}
 use mathlib.Core.Option.{Option, none, some}
-use Prim.Native.Nat.{ℕ, suc, _+_, _≤_, _<_}
-use native.Mathlib.Decide.{decLe}
+use Prim.Native.Nat.{ℕ, _+_, _≤_, _<_}
 use native.Mathlib.Numerals.{add-one}
 use native.Mathlib.Omega.{arith}
-use lib.ListN.{length, drop, getD, drop-of-length-le}
+use lib.ListN.{length, drop, getD, drop-of-length-le, length-drop}
 use lib.Seq.{drop-cons}
 use Rattle.facts.specs.Ranges.{within}
 use Rattle.facts.proofs.Ranges.{uniform, one-answer}
@@ -70,6 +69,17 @@ unfolding utf8From owes whole
 wrong [] = refl
 wrong (b ∷ bytes) = wrong bytes
 
+-- no text is right that ends before all that has to follow
+short : (ranges : List Range) (bytes : List ℕ) → length bytes < length ranges → utf8From (some ranges) bytes ≡ false
+unfolding utf8From owes whole
+short [] bytes h = absurd (omega arith)
+short (r ∷ ranges) [] h = refl
+short (range low high ∷ ranges) (b ∷ bytes) h = by (short ranges bytes (omega arith)) (within low high b)
+  where
+    by : utf8From (some ranges) bytes ≡ false → (t : Bool) → utf8From (cond t (some ranges) none) bytes ≡ false
+    by e true = e
+    by e false = wrong bytes
+
 -- a text that has ended is right
 pub ended : (text : List ℕ) (at : ℕ) → length text ≤ at → utf8 (drop at text) ≡ true
 unfolding utf8 utf8From whole
@@ -101,21 +111,23 @@ module _ {text : List ℕ} {at n : ℕ} where
   pub not-begun : Reached text at n none → utf8 (drop at text) ≡ false
   not-begun r = r .same ∙ wrong _
 
-  -- a byte that has to follow: it stands there, or another does, or the text ends
-  module _ {low high : ℕ} {ranges : List Range} (r : Reached text at n (some (range low high ∷ ranges))) where
-    pub followed : at + n < length text → within low high (getD text (at + n) 0) ≡ true → Reached text at (n + 1) (some ranges)
+  -- the text ends before all that has to follow
+  pub cut-short : {ranges : List Range} → Reached text at n (some ranges) → length text < at + n + length ranges
+      → utf8 (drop at text) ≡ false
+  cut-short {ranges} r h = r .same ∙ short ranges (drop (at + n) text) (omega (arith, r .inside, length-drop (at + n) text))
+
+  -- a byte stands where one has to follow: it is the right one, or another
+  module _ {low high : ℕ} {ranges : List Range} (r : Reached text at n (some (range low high ∷ ranges)))
+      (there : at + n < length text) where
+    pub followed : within low high (getD text (at + n) 0) ≡ true → Reached text at (n + 1) (some ranges)
     unfolding owes
-    followed there e =
+    followed e =
         let p : at + n + 1 ≡ at + (n + 1) = omega arith in
         record {
           inside = omega arith;
           same = r .same ∙ one text (at + n) _ there ∙ rw e (ap (λ (i : ℕ). utf8From (some ranges) (drop i text)) p);
         }
 
-    pub not-followed : (at + n < length text → within low high (getD text (at + n) 0) ≡ false) → utf8 (drop at text) ≡ false
-    unfolding utf8From owes whole
-    not-followed e = by (decLe (suc (at + n)) (length text))
-      where
-        by : Dec (at + n < length text) → utf8 (drop at text) ≡ false
-        by (yes there) = r .same ∙ one text (at + n) _ there ∙ rw (e there) (wrong (drop (at + n + 1) text))
-        by (no ends) = let h : length text ≤ at + n = omega arith in r .same ∙ rw (drop-of-length-le text h)
+    pub not-followed : within low high (getD text (at + n) 0) ≡ false → utf8 (drop at text) ≡ false
+    unfolding owes
+    not-followed e = r .same ∙ one text (at + n) _ there ∙ rw e (wrong (drop (at + n + 1) text))

@@ -10,7 +10,7 @@ use Rattle.facts.specs.Over.{over}
 use Rattle.facts.specs.Pieces.{pieces}
 use Rattle.facts.proofs.Least.{take-least, drop-least}
 use Rattle.facts.proofs.Pieces.{pieces-none, pieces-more, flatten-pieces, count-pieces}
-use Rattle.rfc.specs.Numbers.{Answer, given, refused, mostBytes, mostValue, mostPart, padCode, endCode, noRoom}
+use Rattle.rfc.specs.Numbers.{Answer, given, refused, mostBytes, mostValue, mostPart, padCode, endCode, noRoom, checked}
 use Rattle.rfc.specs.Writing.{partsOf, encode, Write, writeChecks, answerTo, roomLeft, roomAfter, writeSlice, intoRoom, writeBytes, close}
 use Rattle.rfc.proofs.Numbers.{Refuses, here, later, refuses, Clear, done, next, clears, passes, clear-last, given-no, long, not-long, past, not-past, pad-code, end-code, a-code, much, not-much, full, not-full, room-left}
 
@@ -25,6 +25,10 @@ module _ (size : ℕ) (some : 0 < size) (code : ℕ) where
   pub encode-none : encode size code [] ≡ []
   unfolding encode partsOf
   encode-none = ap (partsOf code) (pieces-none size)
+
+  pub encode-empty : (v : List ℕ) → length v ≡ 0 → encode size code v ≡ []
+  encode-empty [] e = encode-none
+  encode-empty (b ∷ v) e = absurd (let f : ⊥ = omega arith in f)
 
   pub encode-more : (v : List ℕ) → 0 < length v
       → encode size code v ≡ code ∷ length (take size v) ∷ (take size v ++ encode size code (drop size v))
@@ -189,27 +193,24 @@ module _ (code : ℕ) (v room : List ℕ) (place : ℕ) where
               (later (not-long room a) (later (not-past place room b) (later (a-code code c d) (here (much v e)))))
 
           module _ (e : length v ≤ mostValue) where
-            pub bytes-8 : length room < place + length (encode mostPart code v)
-                → answerTo (writeBytes code v room place) room place ≡ refused 8
-            unfolding writeBytes writeChecks
-            bytes-8 f =
-                write-refused _ room place
-                (later (not-long room a)
-                (later (not-past place room b)
-                (later (a-code code c d) (later (not-much v e) (here (full room place (encode mostPart code v) f))))))
+            -- only the end of the room can refuse it: it is the write of its parts as they stand
+            pub bytes-slice :
+                (answerTo (writeSlice (encode mostPart code v) room place) room place ≡ answerTo (writeBytes code v room place) room place)
+                × (roomAfter (writeSlice (encode mostPart code v) room place) room place ≡ roomAfter (writeBytes code v room place) room place)
+            unfolding answerTo roomAfter writeChecks writeBytes writeSlice checked
+            bytes-slice =
+                let w = not-long room a in
+                let x = not-past place room b in
+                let y = a-code code c d in
+                let z = not-much v e in
+                (rw (w, x, y, z), rw (w, x, y, z))
 
             module _ (f : place + length (encode mostPart code v) ≤ length room) where
               pub bytes-given : answerTo (writeBytes code v room place) room place ≡ given (place + length (encode mostPart code v))
-              unfolding writeBytes writeChecks
-              bytes-given =
-                  write-given (writeBytes code v room place) room place
-                  (next (not-long room a)
-                  (next (not-past place room b)
-                  (next (a-code code c d) (next (not-much v e) (next (not-full room place (encode mostPart code v) f) done)))))
+              bytes-given = sym (bytes-slice .0) ∙ slice-given (encode mostPart code v) room place b f
 
               pub bytes-left : roomAfter (writeBytes code v room place) room place ≡ over room place (encode mostPart code v)
-              unfolding writeBytes writeChecks
-              bytes-left = given-left (writeBytes code v room place) room place _ bytes-given
+              bytes-left = sym (bytes-slice .1) ∙ slice-left (encode mostPart code v) room place b f
 
 -- the next part by the number of its bytes, as code that counts them has it
 pub encode-next : (size : ℕ) → 0 < size → (code : ℕ) (v : List ℕ) (n : ℕ) → 0 < length v → n ≡ min size (length v)

@@ -68,6 +68,10 @@ roomFor room (option code v n at) =
 unfoldable pub stepChecks : List ℕ → ℕ → List Check
 stepChecks area place = check (tooLong area) 2 ∷ check (pastEnd place area) 4 ∷ []
 
+-- what a call finds, whatever room there is to join in
+unfoldable pub look : List ℕ → ℕ → Answer Found
+look area place = checked (stepChecks area place) (given (walk place (drop place area)))
+
 -- one call, on any area, from any place, with so much room to join in (document 01)
 unfoldable pub step : List ℕ → ℕ → ℕ → Answer Found
 step area place room = checked (stepChecks area place) (roomFor room (walk place (drop place area)))

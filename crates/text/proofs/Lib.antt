@@ -1,3 +1,4 @@
-pub mod Widths
 pub mod Ascii
+pub mod Leads
+pub mod Widths
 pub mod Unique

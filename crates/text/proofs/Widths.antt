@@ -1,16 +1,17 @@
--- The width of a character, as the code finds it: a first byte, then each byte that has to follow, tested for its range.
+-- The width of a character, as the code finds it: a first byte, enough bytes behind it, then each tested for its range.
 -- Assumes nothing.
-use mathlib.Core.Path.{_≡_, refl}
-use mathlib.Core.Bool.{Bool, true, false, not}
+use mathlib.Core.Path.{_≡_, refl, _∙_, sym}
+use mathlib.Core.Bool.{Bool, false, true, not}
 use mathlib.Core.List.{List, [], _∷_}
 use mathlib.Core.Option.{none, some}
 use Prim.Native.Nat.{ℕ, suc, _+_, _≤_, _<_}
 use native.Mathlib.Omega.{arith}
 use borrow.Author.Tests.{not-true, not-false}
 use lib.ListN.{length, drop, getD}
+use Rattle.facts.specs.Ranges.{within}
 use Rattle.rfc.specs.Text.{Range, range, lead, utf8}
-use Rattle.rfc.proofs.Text.{Reached, begun, followed, passed, not-begun, not-followed}
-use Rattle.text.specs.Width.{Asks, Told, Width}
+use Rattle.rfc.proofs.Text.{Reached, begun, followed, passed, not-begun, not-followed, cut-short}
+use Rattle.text.specs.Width.{Asks, Width}
 
 module _ {text : List ℕ} {at : ℕ} where
   nothing : at ≤ length text → utf8 (drop at text) ≡ false → Width text at 0
@@ -29,11 +30,15 @@ module _ {text : List ℕ} {at : ℕ} where
     pub asked : Asks text at ranges → Reached text at 1 (some ranges)
     asked a = begun (a .there) (a .leads)
 
+    -- the text ends before all that it asks for
+    pub cut : Asks text at ranges → length text ≤ at + length ranges → Width text at 0
+    cut a h = let t = a .there in nothing (omega arith) (cut-short (asked a) (omega arith))
+
     -- a byte that has to follow, as the code asks for it
-    module _ {low high n : ℕ} {answer : Bool} (r : Reached text at n (some (range low high ∷ ranges)))
-        (told : Told text (at + n) low high answer) where
+    module _ {low high n : ℕ} {answer : Bool} (r : Reached text at n (some (range low high ∷ ranges))) (there : at + n < length text)
+        (told : answer ≡ within low high (getD text (at + n) 0)) where
       pub on : not answer ≡ false → Reached text at (n + 1) (some ranges)
-      on e = let q = told .yes (not-false _ e) in followed r (q .0) (q .1)
+      on e = followed r there (sym told ∙ not-false _ e)
 
       pub off : not answer ≡ true → Width text at 0
-      off e = let h = r .inside in nothing (omega arith) (not-followed r (told .no (not-true _ e)))
+      off e = nothing (omega arith) (not-followed r there (sym told ∙ not-true _ e))

@@ -1,12 +1,12 @@
--- What the code finds at a place: what a first byte asks for, whether a byte stands there, and how wide a character is.
+-- What the code finds at a place: what a first byte asks for, which bytes may follow it, and how wide a character is.
 -- Assumes nothing.
 use mathlib.Core.Path.{_≡_}
-use mathlib.Core.Bool.{Bool, true, false}
-use mathlib.Core.List.{List}
+use mathlib.Core.Bool.{false}
+use mathlib.Core.List.{List, [], _∷_}
 use mathlib.Core.Option.{some}
 use Prim.Native.Nat.{ℕ, _+_, _≤_, _<_}
 use lib.ListN.{length, drop, getD}
-use Rattle.facts.specs.Ranges.{within}
+use Rattle.facts.specs.Ranges.{Row, row, lookup}
 use Rattle.rfc.specs.Text.{Range, lead, utf8}
 
 -- a byte stands at the place, and these ranges have to follow it where a character begins with it
@@ -14,10 +14,19 @@ pub record Asks (text : List ℕ) (at : ℕ) (ranges : List Range) : Type 0 wher
   pub there : at < length text
   pub leads : lead (getD text at 0) ≡ some ranges
 
--- the answer to whether a byte from low to high stands at a place
-pub record Told (text : List ℕ) (at low high : ℕ) (answer : Bool) : Type 0 where
-  pub yes : answer ≡ true → (at < length text) × (within low high (getD text at 0) ≡ true)
-  pub no : answer ≡ false → at < length text → within low high (getD text at 0) ≡ false
+-- the first bytes that leave out the low end of UTF8-tail, each with the lowest byte that may follow it
+unfoldable pub lowests : List (Row ℕ)
+lowests = row 0xe0 0xe0 0xa0 ∷ row 0xf0 0xf0 0x90 ∷ []
+
+unfoldable pub lowestAfter : ℕ → ℕ
+lowestAfter first = lookup 0x80 lowests first
+
+-- the first bytes that leave out the high end, each with the highest
+unfoldable pub highests : List (Row ℕ)
+highests = row 0xed 0xed 0x9f ∷ row 0xf4 0xf4 0x8f ∷ []
+
+unfoldable pub highestAfter : ℕ → ℕ
+highestAfter first = lookup 0xbf highests first
 
 -- so many bytes are a character, and none where no character stands at the place
 pub record Width (text : List ℕ) (at width : ℕ) : Type 0 where

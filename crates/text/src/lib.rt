@@ -5,8 +5,10 @@ ghost use mathlib.Core.Bool.{false};
 ghost use mathlib.Core.List.{[], _∷_};
 ghost use Prim.Native.Nat.{_+_, _≤_, _<_};
 ghost use lib.ListN.{length, drop};
+ghost use Rattle.facts.specs.Ranges.{within};
 ghost use Rattle.rfc.specs.Text.{utf8, range, tail};
-ghost use Rattle.text.specs.Width.{Asks, Told, Width};
+ghost use Rattle.text.specs.Ascii.{Ascii};
+ghost use Rattle.text.specs.Width.{Asks, Width, lowestAfter, highestAfter};
 
 // How many bytes are looked at together for one that is not ASCII.
 const BLOCK: usize = 128;
@@ -21,7 +23,7 @@ pub fn is_utf8(text: &[u8]) -> bool
 
 // A place that has only ASCII bytes before it: the text's end where all are, and else where a block begins that has another.
 fn past_ascii(text: &[u8]) -> usize
-    ensures { λ r. ⌜ (r ≤ length (now (text .entry))) × (utf8 (now (text .entry)) ≡ utf8 (drop r (now (text .entry)))) ⌝ }
+    ensures { λ r. ⌜ (r ≤ length (now (text .entry))) × Ascii (now (text .entry)) 0 r ⌝ }
 {
     let mut i: usize = 0;
     while text.len() - i >= BLOCK {
@@ -30,7 +32,7 @@ fn past_ascii(text: &[u8]) -> usize
         }
         i += BLOCK;
     }
-    if any_high(text, i, text.len() - i) {
+    if high_rest(text, i) {
         return i;
     }
     text.len()
@@ -39,7 +41,7 @@ fn past_ascii(text: &[u8]) -> usize
 // Whether one of the `n` bytes from `i` on is above 0x7f. There is no way out of the loop, so that it is compiled to vector code.
 fn any_high(text: &[u8], i: usize, n: usize) -> bool
     requires { ⌜ i + n ≤ length (now text) ⌝ }
-    ensures { λ r. ⌜ (r ≡ false → utf8 (drop i (now (text .entry))) ≡ utf8 (drop (i + n) (now (text .entry)))) ⌝ }
+    ensures { λ r. ⌜ (r ≡ false → Ascii (now (text .entry)) i (i + n)) ⌝ }
 {
     let mut high = false;
     let mut j: usize = 0;
@@ -55,6 +57,38 @@ fn or_high(before: bool, b: u8) -> bool
     ensures { λ r. ⌜ (r ≡ false → (before ≡ false) × (b ≤ 0x7f)) ⌝ }
 {
     before | (b > 0x7f)
+}
+
+// Whether one of the bytes from `i` to the end is above 0x7f. From 8 to 15 of them are asked for by two blocks of 8: the second ends
+// where the text does, and may begin inside the first.
+fn high_rest(text: &[u8], i: usize) -> bool
+    requires { ⌜ i ≤ length (now text) ⌝ }
+    ensures { λ r. ⌜ (r ≡ false → Ascii (now (text .entry)) i (length (now (text .entry)))) ⌝ }
+{
+    let n = text.len() - i;
+    if n < 8 {
+        return any_high(text, i, n);
+    }
+    if n < 16 {
+        return high_8(text, i) | high_8(text, text.len() - 8);
+    }
+    any_high(text, i, n)
+}
+
+// Whether one of the 8 bytes from `i` on is above 0x7f, and so their `|`. They are read first, so that it is compiled to one load.
+fn high_8(text: &[u8], i: usize) -> bool
+    requires { ⌜ i + 8 ≤ length (now text) ⌝ }
+    ensures { λ r. ⌜ (r ≡ false → Ascii (now (text .entry)) i (i + 8)) ⌝ }
+{
+    let b0 = text[i];
+    let b1 = text[i + 1];
+    let b2 = text[i + 2];
+    let b3 = text[i + 3];
+    let b4 = text[i + 4];
+    let b5 = text[i + 5];
+    let b6 = text[i + 6];
+    let b7 = text[i + 7];
+    (b0 | b1 | b2 | b3 | b4 | b5 | b6 | b7) > 0x7f
 }
 
 // Whether characters stand from `from` on, up to the end.
@@ -73,33 +107,64 @@ fn all_characters(text: &[u8], from: usize) -> bool
     true
 }
 
-// How many bytes the character at `i` has, and 0 where none stands there.
+// How many bytes the character at `i` has, and 0 where none stands there. The first byte decides the form, by tests and not by a
+// `match`, which would be compiled to a jump through a table.
 fn width_at(text: &[u8], i: usize) -> usize
     requires { ⌜ i < length (now text) ⌝ }
     ensures { λ r. ⌜ Width (now (text .entry)) i r ⌝ }
 {
     let first = text[i];
-    match first {
-        // UTF8-1 = %x00-7F
-        0x00..=0x7f => 1,
-        // UTF8-2 = %xC2-DF UTF8-tail
-        0xc2..=0xdf => two_bytes(text, i),
-        // UTF8-3 = %xE0 %xA0-BF UTF8-tail
-        0xe0 => three_bytes(text, i, 0xa0, 0xbf),
-        // / %xE1-EC 2( UTF8-tail )
-        0xe1..=0xec => three_bytes(text, i, 0x80, 0xbf),
-        // / %xED %x80-9F UTF8-tail
-        0xed => three_bytes(text, i, 0x80, 0x9f),
-        // / %xEE-EF 2( UTF8-tail )
-        0xee..=0xef => three_bytes(text, i, 0x80, 0xbf),
-        // UTF8-4 = %xF0 %x90-BF 2( UTF8-tail )
-        0xf0 => four_bytes(text, i, 0x90, 0xbf),
-        // / %xF1-F3 3( UTF8-tail )
-        0xf1..=0xf3 => four_bytes(text, i, 0x80, 0xbf),
-        // / %xF4 %x80-8F 2( UTF8-tail )
-        0xf4 => four_bytes(text, i, 0x80, 0x8f),
-        _ => 0,
+    // UTF8-1 = %x00-7F
+    if first < 0x80 {
+        return 1;
     }
+    if first < 0xc2 {
+        return 0;
+    }
+    // UTF8-2 = %xC2-DF UTF8-tail
+    if first < 0xe0 {
+        return two_bytes(text, i);
+    }
+    // UTF8-3 = %xE0 %xA0-BF UTF8-tail / %xE1-EC 2( UTF8-tail ) / %xED %x80-9F UTF8-tail / %xEE-EF 2( UTF8-tail )
+    if first < 0xf0 {
+        return three_bytes(text, i, lowest(first), highest(first));
+    }
+    // UTF8-4 = %xF0 %x90-BF 2( UTF8-tail ) / %xF1-F3 3( UTF8-tail ) / %xF4 %x80-8F 2( UTF8-tail )
+    if first < 0xf5 {
+        return four_bytes(text, i, lowest(first), highest(first));
+    }
+    0
+}
+
+// The lowest byte that may follow a first byte: that of UTF8-tail, but where fewer bytes would do for a lower one.
+fn lowest(first: u8) -> u8
+    ensures { λ r. ⌜ r ≡ lowestAfter first ⌝ }
+{
+    // %xE0 %xA0-BF
+    if first == 0xe0 {
+        return 0xa0;
+    }
+    // %xF0 %x90-BF
+    if first == 0xf0 {
+        return 0x90;
+    }
+    0x80
+}
+
+// The highest byte that may follow a first byte: that of UTF8-tail, but where a higher one would make a surrogate or a number above
+// 10ffff.
+fn highest(first: u8) -> u8
+    ensures { λ r. ⌜ r ≡ highestAfter first ⌝ }
+{
+    // %xED %x80-9F
+    if first == 0xed {
+        return 0x9f;
+    }
+    // %xF4 %x80-8F
+    if first == 0xf4 {
+        return 0x8f;
+    }
+    0xbf
 }
 
 // The width where the first byte at `i` asks for one more, UTF8-tail = %x80-BF.
@@ -107,7 +172,10 @@ fn two_bytes(text: &[u8], i: usize) -> usize
     requires { ⌜ Asks (now text) i (tail ∷ []) ⌝ }
     ensures { λ r. ⌜ Width (now (text .entry)) i r ⌝ }
 {
-    if !stands(text, i + 1, 0x80, 0xbf) {
+    if i + 1 >= text.len() {
+        return 0;
+    }
+    if !between(text[i + 1], 0x80, 0xbf) {
         return 0;
     }
     2
@@ -118,10 +186,13 @@ fn three_bytes(text: &[u8], i: usize, low: u8, high: u8) -> usize
     requires { ⌜ Asks (now text) i (range low high ∷ tail ∷ []) ⌝ }
     ensures { λ r. ⌜ Width (now (text .entry)) i r ⌝ }
 {
-    if !stands(text, i + 1, low, high) {
+    if i + 2 >= text.len() {
         return 0;
     }
-    if !stands(text, i + 2, 0x80, 0xbf) {
+    if !between(text[i + 1], low, high) {
+        return 0;
+    }
+    if !between(text[i + 2], 0x80, 0xbf) {
         return 0;
     }
     3
@@ -132,25 +203,24 @@ fn four_bytes(text: &[u8], i: usize, low: u8, high: u8) -> usize
     requires { ⌜ Asks (now text) i (range low high ∷ tail ∷ tail ∷ []) ⌝ }
     ensures { λ r. ⌜ Width (now (text .entry)) i r ⌝ }
 {
-    if !stands(text, i + 1, low, high) {
+    if i + 3 >= text.len() {
         return 0;
     }
-    if !stands(text, i + 2, 0x80, 0xbf) {
+    if !between(text[i + 1], low, high) {
         return 0;
     }
-    if !stands(text, i + 3, 0x80, 0xbf) {
+    if !between(text[i + 2], 0x80, 0xbf) {
+        return 0;
+    }
+    if !between(text[i + 3], 0x80, 0xbf) {
         return 0;
     }
     4
 }
 
-// Whether a byte from `low` to `high` stands at `i`. At the text's end none does.
-fn stands(text: &[u8], i: usize, low: u8, high: u8) -> bool
-    ensures { λ r. ⌜ Told (now (text .entry)) i low high r ⌝ }
+// Whether a byte is one from `low` to `high`.
+fn between(b: u8, low: u8, high: u8) -> bool
+    ensures { λ r. ⌜ r ≡ within low high b ⌝ }
 {
-    if i < text.len() {
-        let b = text[i];
-        return (low <= b) & (b <= high);
-    }
-    false
+    (low <= b) & (b <= high)
 }

@@ -12,7 +12,7 @@ use Rattle.facts.proofs.BigEndian.{length-digits}
 use Rattle.rfc.specs.Numbers.{Check, mostPart}
 use Rattle.rfc.specs.Kinds.{sizeOf}
 use Rattle.rfc.specs.Values.{Content, natural, notText}
-use Rattle.rfc.specs.Writing.{Write, answerTo, roomAfter, encode, writeSlice, writeBytes}
+use Rattle.rfc.specs.Writing.{Write, encode, writeSlice, writeBytes}
 use Rattle.rfc.specs.Typed.{bytesIn, partSize, codeChecks, writeKind}
 use Rattle.rfc.proofs.Numbers.{Refuses, Clear}
 use Rattle.rfc.proofs.Values.{Scalar}
@@ -22,7 +22,7 @@ use Rattle.rfc.proofs.Typed.{kind-code, kind-alike, kind-slice, value-kind}
 use Rattle.encoder.specs.Written.{Wrote}
 use Rattle.encoder.specs.declared.Written.{Written}
 use Rattle.encoder.specs.declared.Written.the-variants.{Refused}
-use Rattle.encoder.proofs.Answers.{refuses, same-bytes}
+use Rattle.encoder.proofs.Answers.{refuses, same-bytes, same-wrote}
 use Rattle.typed.specs.Writes.{Writes, Decides, none, first, AsBytes}
 
 -- a number above 0 is the first refusal, and 0 is none
@@ -33,12 +33,6 @@ decides-some (first p r) h = r
 pub decides-none : {checks : List Check} {k : ℕ} → Decides checks k → k ≤ 0 → Clear checks
 decides-none (none c) h = c
 decides-none (first p r) h = absurd (omega arith)
-
--- a write that answers as another does, and leaves what it leaves
-same-wrote : {w w′ : Write} {room room′ : List ℕ} {place : ℕ} {r : Written}
-    → (answerTo w room place ≡ answerTo w′ room place) × (roomAfter w room place ≡ roomAfter w′ room place)
-    → Wrote w room room′ place r → Wrote w′ room room′ place r
-same-wrote same o = record { told = o .told ∙ same .0; left = o .left ∙ same .1 }
 
 -- bytes of a kind
 module _ (kind code : ℕ) (v room : List ℕ) (place : ℕ) where

@@ -77,7 +77,7 @@ pub fn write_text(room: &mut [u8], place: usize, code: u8, text: &[u8]) -> Writt
 pub fn write_node_type(room: &mut [u8], place: usize, code: u8, node: Node) -> Written
     ensures { λ r. ⌜ Writes 12 (natural (byteOf node)) code (now (room .entry)) (now (room .exit)) place r ⌝ }
 {
-    let byte = byte_of(node);
+    let byte = values::byte_of(node);
     checks::write_as(room, place, code, kinds::NODE_TYPE, &[byte])
 }
 
@@ -124,17 +124,4 @@ fn yes_byte(yes: bool) -> u8
     ensures { λ r. ⌜ r ≡ cond yes 1 0 ⌝ }
 {
     if yes { 1 } else { 0 }
-}
-
-// The byte of a node type.
-fn byte_of(node: Node) -> u8
-    ensures { λ r. ⌜ r ≡ byteOf node ⌝ }
-{
-    match node {
-        Node::B => 1,
-        Node::P => 2,
-        Node::M => 4,
-        Node::H => 8,
-        Node::Unknown(byte) => byte,
-    }
 }

@@ -23,6 +23,8 @@ use Rattle.values.proofs.read.Kinds as read-kinds
 use Rattle.values.proofs.read.Reads as read
 use Rattle.values.proofs.element.Kinds as element-kinds
 use Rattle.values.proofs.element.Reads as element-reads
+use Rattle.values.proofs.byte_of.Kinds as byte-of-kinds
+use Rattle.values.proofs.byte_of.Reads as byte-of
 
 -- back from what is said to who said it: a node type,
 nodeBack : rfc.Node → Node
@@ -112,3 +114,6 @@ read-unique κs a x y s t p q = sym (reading-back _ _ x p) ∙ reading-back _ _ 
 
 element-unique : Unique 1 element-kinds.ps element-kinds.r element-reads.Post
 element-unique κs a x y s t p q = sym (element-back x) ∙ ap elementBack (p ∙ sym q) ∙ element-back y
+
+byte-of-unique : Unique 0 byte-of-kinds.ps byte-of-kinds.r byte-of.Post
+byte-of-unique κs a x y s t p q = p ∙ sym q

@@ -114,6 +114,19 @@ fn node_of(byte: u8) -> Node
     }
 }
 
+// The byte of a node type.
+pub fn byte_of(node: Node) -> u8
+    ensures { λ r. ⌜ r ≡ byteOf node ⌝ }
+{
+    match node {
+        Node::B => 1,
+        Node::P => 2,
+        Node::M => 4,
+        Node::H => 8,
+        Node::Unknown(byte) => byte,
+    }
+}
+
 // The number that two bytes from `at` on are.
 fn u16_at(value: &[u8], at: usize) -> u16
     requires { ⌜ at + 2 ≤ length (now value) ⌝ }

@@ -62,8 +62,8 @@ fn rule_for(kind: u8, strict: bool) -> u8
     PLAIN[kind as usize]
 }
 
-// 10: the value's length is wrong for its kind.
-pub(crate) fn wrong_length(kind: u8, value: &[u8], strict: bool) -> bool
+// Whether the value's length breaks the rule for a kind.
+fn breaks_rule(kind: u8, value: &[u8], strict: bool) -> bool
     requires { ⌜ kind < 16 ⌝ }
     ensures { λ r. ⌜ r ≡ wrongLength (modeOf strict) kind (now (value .entry)) ⌝ }
 {
@@ -76,4 +76,29 @@ pub(crate) fn wrong_length(kind: u8, value: &[u8], strict: bool) -> bool
         return value.len() < size;
     }
     value.len() % size != 0
+}
+
+// 10: the value's length is wrong for its kind. Each arm names its kind, so that the compiler looks up the rule and the size.
+pub(crate) fn wrong_length(kind: u8, value: &[u8], strict: bool) -> bool
+    requires { ⌜ kind < 16 ⌝ }
+    ensures { λ r. ⌜ r ≡ wrongLength (modeOf strict) kind (now (value .entry)) ⌝ }
+{
+    match kind {
+        kinds::RAW => breaks_rule(kinds::RAW, value, strict),
+        kinds::ADDRESS => breaks_rule(kinds::ADDRESS, value, strict),
+        kinds::ADDRESSES => breaks_rule(kinds::ADDRESSES, value, strict),
+        kinds::PAIRS => breaks_rule(kinds::PAIRS, value, strict),
+        kinds::BYTE => breaks_rule(kinds::BYTE, value, strict),
+        kinds::YES_NO => breaks_rule(kinds::YES_NO, value, strict),
+        kinds::U16 => breaks_rule(kinds::U16, value, strict),
+        kinds::U16S => breaks_rule(kinds::U16S, value, strict),
+        kinds::U32 => breaks_rule(kinds::U32, value, strict),
+        kinds::I32 => breaks_rule(kinds::I32, value, strict),
+        kinds::TEXT => breaks_rule(kinds::TEXT, value, strict),
+        kinds::CODES => breaks_rule(kinds::CODES, value, strict),
+        kinds::NODE_TYPE => breaks_rule(kinds::NODE_TYPE, value, strict),
+        kinds::MESSAGE_TYPE => breaks_rule(kinds::MESSAGE_TYPE, value, strict),
+        kinds::THREE_BYTES => breaks_rule(kinds::THREE_BYTES, value, strict),
+        _ => breaks_rule(kinds::FLAG, value, strict),
+    }
 }

@@ -1,75 +1,86 @@
--- `copy` meets its contract: after i turns the first i bytes are put over what stood there.
+-- `copy` meets its contract: two blocks, of which the second ends at the end, are one write.
 -- Assumes nothing.
-use Prim.Native.Nat.{ℕ, _+_, _-_, _≤_}
-use mathlib.Core.Path.{_≡_, refl, sym, ap, _∙_}
-use mathlib.Core.List.{List}
 use native.Mathlib.Omega.{arith}
-use lib.ListN.{length, take, set, getD, length-set}
-use lib.Seq.{take-length}
-use Rattle.facts.specs.Over.{over}
-use Rattle.facts.proofs.Over.{over-nil, copy-turn}
+use Rattle.encoder.proofs.Blocks.{run-last}
+use borrow.Author.Needs.{needs}
 use Rattle.encoder.proofs.copy.Statement.{statement}
 use Rattle.encoder.proofs.copy.Tie as tie
 
-abbrev Inv-loop : tie.InvT-loop
-Inv-loop from to₀ place i₀ to i = (i ≤ length from) × (to ≡ over to₀ place (take i from)) × (length to ≡ length to₀)
+copy-blocks-requires : tie.Need-copy-blocks-requires
+copy-blocks-requires c κs = search needs
 
-abbrev μ-loop : tie.MeasureT-loop
-μ-loop from to₀ place i₀ to i = length from - i
+same-length : tie.Need-same-length
+same-length c = search needs
 
-loop-holds : tie.Need-loop-holds Inv-loop μ-loop
-loop-holds c = (omega arith, sym (over-nil _ _), refl)
+returns : tie.Need-returns
+returns c = search needs
 
-shared-slice-read-to : tie.Need-shared-slice-read-to Inv-loop μ-loop
-shared-slice-read-to c = omega arith
+block-8-requires : tie.Need-block-8-requires
+block-8-requires c κs = search needs
 
-add-to : tie.Need-add-to Inv-loop μ-loop
-add-to c = omega arith
+add-block-8 : tie.Need-add-block-8
+add-block-8 c = search needs
 
-slice-write-to : tie.Need-slice-write-to Inv-loop μ-loop
-slice-write-to c = omega arith
+block-8-requires-2 : tie.Need-block-8-requires-2
+block-8-requires-2 c κs = search needs
 
-add-i : tie.Need-add-i Inv-loop μ-loop
-add-i c = omega arith
+same-length-2 : tie.Need-same-length-2
+same-length-2 c = search needs
 
-loop-less : tie.Need-loop-less Inv-loop μ-loop
-loop-less c = omega arith
+returns-2 : tie.Need-returns-2
+returns-2 c =
+    let second = c .before .before in
+    let first = second .before .before .before .before in
+    let a = first .before .before .before .before .before .before .args in
+    run-last (a .to .now) (a .from .now) (a .place) 8 8 (omega arith) (omega arith) (omega arith) (omega arith)
+    (first .block-8 .ensures) (second .block-82 .ensures)
 
-loop-again : tie.Need-loop-again Inv-loop μ-loop
-loop-again c =
-    let l = c .before .before .loop in
-    let a = c .before .before .before .args in
-    let byte = getD (a .from .now) (l .i) 0 in
-    let turn = copy-turn (a .to .now) (a .place) (a .from .now) (l .i) (omega arith) (omega arith) in (
-      omega arith,
-      ap (λ (x : List ℕ). set x (a .place + l .i) byte) (l .inv .1) ∙ turn,
-      length-set (l .to) (a .place + l .i) _ ∙ l .inv .2,
-    )
+block-4-requires : tie.Need-block-4-requires
+block-4-requires c κs = search needs
 
-same-length : tie.Need-same-length Inv-loop μ-loop
-same-length c = c .before .loop .inv .2
+add-block-4 : tie.Need-add-block-4
+add-block-4 c = search needs
 
-returns : tie.Need-returns Inv-loop μ-loop
-returns c =
-    let l = c .before .loop in
-    let a = c .before .before .args in
-    let e : l .i ≡ length (a .from .now) = omega arith in
-    l .inv .1
-    ∙ ap (λ (k : ℕ). over (a .to .now) (a .place) (take k (a .from .now))) e
-    ∙ ap (over (a .to .now) (a .place)) (take-length (a .from .now))
+block-4-requires-2 : tie.Need-block-4-requires-2
+block-4-requires-2 c κs = search needs
+
+same-length-3 : tie.Need-same-length-3
+same-length-3 c = search needs
+
+returns-3 : tie.Need-returns-3
+returns-3 c =
+    let second = c .before .before in
+    let first = second .before .before .before .before in
+    let a = first .before .before .before .before .before .before .before .args in
+    run-last (a .to .now) (a .from .now) (a .place) 4 4 (omega arith) (omega arith) (omega arith) (omega arith)
+    (first .block-4 .ensures) (second .block-42 .ensures)
+
+copy-bytes-requires : tie.Need-copy-bytes-requires
+copy-bytes-requires c κs = search needs
+
+same-length-4 : tie.Need-same-length-4
+same-length-4 c = search needs
+
+returns-4 : tie.Need-returns-4
+returns-4 c = search needs
 
 pub copy-spec : {M : Type 1} → statement M
 copy-spec =
     tie.close
     (tie.spec
-    Inv-loop
-    μ-loop
-    loop-holds
-    shared-slice-read-to
-    add-to
-    slice-write-to
-    add-i
-    loop-less
-    loop-again
+    copy-blocks-requires
     same-length
-    returns)
+    returns
+    block-8-requires
+    add-block-8
+    block-8-requires-2
+    same-length-2
+    returns-2
+    block-4-requires
+    add-block-4
+    block-4-requires-2
+    same-length-3
+    returns-3
+    copy-bytes-requires
+    same-length-4
+    returns-4)

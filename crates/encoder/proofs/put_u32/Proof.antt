@@ -1,12 +1,7 @@
--- `put_u32` meets its contract: stores one behind the other are one write.
+-- `put_u32` meets its contract: the four bytes of the number are put.
 -- Assumes nothing.
 use mathlib.Core.Path.{ap, _∙_}
-use Prim.Native.Nat.{ℕ}
-use mathlib.Core.List.{List, [], _∷_}
-use native.Mathlib.Omega.{arith}
-use lib.ListN.{getD, length-set}
-use Rattle.facts.specs.BigEndian.{digits}
-use Rattle.facts.proofs.Cells.{stores, stores-over}
+use Rattle.facts.specs.Over.{over}
 use borrow.Author.Needs.{needs}
 use Rattle.encoder.proofs.put_u32.Statement.{statement}
 use Rattle.encoder.proofs.put_u32.Tie as tie
@@ -14,63 +9,18 @@ use Rattle.encoder.proofs.put_u32.Tie as tie
 u32-bytes-requires : tie.Need-u32-bytes-requires
 u32-bytes-requires c κs = search needs
 
-array-read-room : tie.Need-array-read-room
-array-read-room c = search needs
-
-slice-write-room : tie.Need-slice-write-room
-slice-write-room c = search needs
-
-array-read-room-2 : tie.Need-array-read-room-2
-array-read-room-2 c = search needs
-
-add-room : tie.Need-add-room
-add-room c = search needs
-
-slice-write-room-2 : tie.Need-slice-write-room-2
-slice-write-room-2 c = simp length-set (omega arith)
-
-array-read-room-3 : tie.Need-array-read-room-3
-array-read-room-3 c = search needs
-
-add-room-2 : tie.Need-add-room-2
-add-room-2 c = search needs
-
-slice-write-room-3 : tie.Need-slice-write-room-3
-slice-write-room-3 c = simp length-set (omega arith)
-
-array-read-room-4 : tie.Need-array-read-room-4
-array-read-room-4 c = search needs
-
-add-room-3 : tie.Need-add-room-3
-add-room-3 c = search needs
-
-slice-write-room-4 : tie.Need-slice-write-room-4
-slice-write-room-4 c = simp length-set (omega arith)
+put-four-requires : tie.Need-put-four-requires
+put-four-requires c κs = search needs
 
 same-length : tie.Need-same-length
 same-length c = search needs
 
 returns : tie.Need-returns
 returns c =
-    let a = c .before .before .args in
-    ap (λ (bytes : List ℕ). stores (a .room .now) (a .at) (getD bytes 0 0 ∷ getD bytes 1 0 ∷ getD bytes 2 0 ∷ getD bytes 3 0 ∷ [])) (c .u32-bytes .ensures)
-    ∙ stores-over (a .room .now) (a .at) (digits 4 (a .number)) (omega arith)
+    let put = c .before .before in
+    let made = put .before in
+    let a = made .before .before .before .args in
+    put .put-four .ensures ∙ ap (over (a .room .now) (a .at)) (made .u32-bytes .ensures)
 
 pub put-u32-spec : {M : Type 1} → statement M
-put-u32-spec =
-    tie.close
-    (tie.spec
-    u32-bytes-requires
-    array-read-room
-    slice-write-room
-    array-read-room-2
-    add-room
-    slice-write-room-2
-    array-read-room-3
-    add-room-2
-    slice-write-room-3
-    array-read-room-4
-    add-room-3
-    slice-write-room-4
-    same-length
-    returns)
+put-u32-spec = tie.close (tie.spec u32-bytes-requires put-four-requires same-length returns)

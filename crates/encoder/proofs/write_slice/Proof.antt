@@ -1,9 +1,9 @@
 -- `write_slice` meets its contract: a law of `writeSlice` for each return.
 -- Assumes nothing.
-use mathlib.Core.Path.{sym, _∙_}
+use mathlib.Core.Path.{refl}
 use native.Mathlib.Omega.{arith}
-use Rattle.rfc.proofs.Writing.{slice-4, slice-8, slice-given, slice-left}
-use Rattle.encoder.proofs.Answers.{refuses, writes}
+use Rattle.rfc.proofs.Writing.{slice-4}
+use Rattle.encoder.proofs.Answers.{refuses, no-room, puts}
 use borrow.Author.Needs.{needs}
 use Rattle.encoder.proofs.write_slice.Statement.{statement}
 use Rattle.encoder.proofs.write_slice.Tie as tie
@@ -19,7 +19,7 @@ sub-if2 c = search needs
 returns-2 : tie.Need-returns-2
 returns-2 c =
     let a = c .before .before .before .before .args in
-    refuses _ (a .room .now) (a .place) 8 (slice-8 (a .bytes .now) (a .room .now) (a .place) (c .before .if1 .left) (omega arith))
+    no-room (a .bytes .now) (a .room .now) (a .place) (c .before .if1 .left) (omega arith)
 
 add-to : tie.Need-add-to
 add-to c = search needs
@@ -34,9 +34,7 @@ returns-3 : tie.Need-returns-3
 returns-3 c =
     let a = c .before .before .before .before .before .before .before .before .args in
     let within = c .before .before .before .before .before .if1 .left in
-    writes _ (a .room .now) (a .place) _ _
-    (slice-given (a .bytes .now) (a .room .now) (a .place) within (omega arith))
-    (slice-left (a .bytes .now) (a .room .now) (a .place) within (omega arith) ∙ sym (c .before .before .copy .ensures))
+    puts (a .bytes .now) (a .room .now) (a .place) within _ (omega arith) refl (c .before .before .copy .ensures)
 
 pub write-slice-spec : {M : Type 1} → statement M
 write-slice-spec =

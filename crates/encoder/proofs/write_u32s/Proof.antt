@@ -1,13 +1,10 @@
 -- `write_u32s` meets its contract: a law of `writeSlice` for each return.
 -- Assumes nothing.
-use mathlib.Core.Path.{sym, ap, _∙_}
-use Prim.Native.Nat.{ℕ, _+_}
 use native.Mathlib.Omega.{arith}
-use Rattle.rfc.specs.Numbers.{given}
 use Rattle.rfc.specs.Typed.{digitsOf}
-use Rattle.rfc.proofs.Writing.{slice-4, slice-8, slice-given, slice-left}
+use Rattle.rfc.proofs.Writing.{slice-4}
 use Rattle.rfc.proofs.Typed.{length-digits-of}
-use Rattle.encoder.proofs.Answers.{refuses, writes}
+use Rattle.encoder.proofs.Answers.{refuses, no-room, puts}
 use borrow.Author.Needs.{needs}
 use Rattle.encoder.proofs.write_u32s.Statement.{statement}
 use Rattle.encoder.proofs.write_u32s.Tie as tie
@@ -23,9 +20,8 @@ sub-if2 c = search needs
 returns-2 : tie.Need-returns-2
 returns-2 c =
     let a = c .before .before .before .before .args in
-    let bytes = digitsOf 4 (a .numbers .now) in
-    refuses _ (a .room .now) (a .place) 8
-    (slice-8 bytes (a .room .now) (a .place) (c .before .if1 .left) (omega (arith, length-digits-of 4 (a .numbers .now))))
+    let size = length-digits-of 4 (a .numbers .now) in
+    no-room (digitsOf 4 (a .numbers .now)) (a .room .now) (a .place) (c .before .if1 .left) (omega arith)
 
 mul-to : tie.Need-mul-to
 mul-to c = search needs
@@ -42,12 +38,10 @@ same-length c = search needs
 returns-3 : tie.Need-returns-3
 returns-3 c =
     let a = c .before .before .before .before .before .before .before .before .args in
-    let bytes = digitsOf 4 (a .numbers .now) in
     let size = length-digits-of 4 (a .numbers .now) in
     let within = c .before .before .before .before .before .if1 .left in
-    writes _ (a .room .now) (a .place) _ _
-    (slice-given bytes (a .room .now) (a .place) within (omega arith) ∙ ap (λ (k : ℕ). given (a .place + k)) size)
-    (slice-left bytes (a .room .now) (a .place) within (omega arith) ∙ sym (c .before .before .put-u32s .ensures))
+    puts (digitsOf 4 (a .numbers .now)) (a .room .now) (a .place) within _ (omega arith) (omega arith)
+    (c .before .before .put-u32s .ensures)
 
 pub write-u32s-spec : {M : Type 1} → statement M
 write-u32s-spec =

@@ -18,8 +18,8 @@ put-named-requires c κs = search needs
 slice-aggregate-put-named-2 : tie.Need-slice-aggregate-put-named-2
 slice-aggregate-put-named-2 c = search needs
 
-kind-of-requires : tie.Need-kind-of-requires
-kind-of-requires c κs = search needs
+kind-in-table-requires : tie.Need-kind-in-table-requires
+kind-in-table-requires c κs = search needs
 
 cast-put-named : tie.Need-cast-put-named
 cast-put-named c = search needs
@@ -65,7 +65,8 @@ returns c =
     (both _ _ _ _ _
     (both _ _ _ _ _
     (both _ _ _ _ _ (first .ensures)
-    (kind .put-named2 .ensures ∙ ap (λ n. addsAll (first .last .0, first .result) (named words.kind n)) (kind .before .kind-of .ensures)))
+    (kind .put-named2 .ensures
+    ∙ ap (λ n. addsAll (first .last .0, first .result) (named words.kind n)) (kind .before .kind-in-table .ensures)))
     (counted .put-named3 .ensures))
     (word .put-word .ensures))
     (bytes .put-spaced .ensures))
@@ -78,7 +79,7 @@ put-option-spec =
     slice-aggregate-put-named
     put-named-requires
     slice-aggregate-put-named-2
-    kind-of-requires
+    kind-in-table-requires
     cast-put-named
     put-named-requires-2
     slice-aggregate-put-named-3

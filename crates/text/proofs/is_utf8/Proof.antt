@@ -1,7 +1,8 @@
--- `is_utf8` meets its contract: what was passed does not change whether the text is right.
+-- `is_utf8` meets its contract: the ASCII in front does not change whether the text is right.
 -- Assumes nothing.
 use mathlib.Core.Path.{_∙_, sym}
 use borrow.Author.Needs.{needs}
+use Rattle.text.proofs.Ascii.{in-front}
 use Rattle.text.proofs.is_utf8.Statement.{statement}
 use Rattle.text.proofs.is_utf8.Tie as tie
 
@@ -12,7 +13,9 @@ all-characters-requires : tie.Need-all-characters-requires
 all-characters-requires c κs = search needs
 
 returns : tie.Need-returns
-returns c = c .all-characters .ensures ∙ sym (c .before .past-ascii .ensures .1)
+returns c =
+    let front = c .before .past-ascii .ensures in
+    c .all-characters .ensures ∙ sym (in-front _ (front .0) (front .1))
 
 pub is-utf8-spec : {M : Type 1} → statement M
 is-utf8-spec = tie.close (tie.spec past-ascii-requires all-characters-requires returns)

@@ -1,47 +1,66 @@
--- `three_bytes` meets its contract: what has to follow is asked for byte by byte.
+-- `three_bytes` meets its contract: enough bytes are left, and each of them is asked whether it may follow.
 -- Assumes nothing.
-use Rattle.text.proofs.Widths.{one-there, asked, on, off}
+use native.Mathlib.Omega.{arith}
+use Rattle.text.proofs.Widths.{one-there, asked, cut, on, off}
 use borrow.Author.Needs.{needs}
 use Rattle.text.proofs.three_bytes.Statement.{statement}
 use Rattle.text.proofs.three_bytes.Tie as tie
 
-add-stands : tie.Need-add-stands
-add-stands c = search needs
-
-stands-requires : tie.Need-stands-requires
-stands-requires c κs = search needs
+add-if1 : tie.Need-add-if1
+add-if1 c = search needs
 
 returns : tie.Need-returns
-returns c = off (asked (c .before .before .before .pre)) (c .before .stands .ensures) (c .if1 .taken)
+returns c = cut (c .before .before .pre) (omega arith)
 
-add-stands-2 : tie.Need-add-stands-2
-add-stands-2 c = search needs
+add-between : tie.Need-add-between
+add-between c = search needs
 
-stands-requires-2 : tie.Need-stands-requires-2
-stands-requires-2 c κs = search needs
+shared-slice-read-between : tie.Need-shared-slice-read-between
+shared-slice-read-between c = search needs
+
+between-requires : tie.Need-between-requires
+between-requires c κs = search needs
 
 returns-2 : tie.Need-returns-2
 returns-2 c =
-    let second = c .before .before in
-    let r1 = asked (second .before .before .before .pre) in
-    let r2 = on r1 (second .before .stands .ensures) (second .if1 .left) in
-    off r2 (c .before .stands2 .ensures) (c .if2 .taken)
+    let first = c .before .before .before in
+    off (asked (first .before .before .pre)) (omega arith) (c .before .between .ensures) (c .if2 .taken)
+
+add-between-2 : tie.Need-add-between-2
+add-between-2 c = search needs
+
+shared-slice-read-between-2 : tie.Need-shared-slice-read-between-2
+shared-slice-read-between-2 c = search needs
+
+between-requires-2 : tie.Need-between-requires-2
+between-requires-2 c κs = search needs
 
 returns-3 : tie.Need-returns-3
 returns-3 c =
-    let second = c .before .before in
-    let r1 = asked (second .before .before .before .pre) in
-    let r2 = on r1 (second .before .stands .ensures) (second .if1 .left) in
-    one-there (on r2 (c .before .stands2 .ensures) (c .if2 .left))
+    let second = c .before .before .before in
+    let r1 = asked (second .before .before .before .before .before .pre) in
+    let r2 = on r1 (omega arith) (second .before .between .ensures) (second .if2 .left) in
+    off r2 (omega arith) (c .before .between2 .ensures) (c .if3 .taken)
+
+returns-4 : tie.Need-returns-4
+returns-4 c =
+    let second = c .before .before .before in
+    let r1 = asked (second .before .before .before .before .before .pre) in
+    let r2 = on r1 (omega arith) (second .before .between .ensures) (second .if2 .left) in
+    one-there (on r2 (omega arith) (c .before .between2 .ensures) (c .if3 .left))
 
 pub three-bytes-spec : {M : Type 1} → statement M
 three-bytes-spec =
     tie.close
     (tie.spec
-    add-stands
-    stands-requires
+    add-if1
     returns
-    add-stands-2
-    stands-requires-2
+    add-between
+    shared-slice-read-between
+    between-requires
     returns-2
-    returns-3)
+    add-between-2
+    shared-slice-read-between-2
+    between-requires-2
+    returns-3
+    returns-4)

@@ -1,21 +1,44 @@
--- `two_bytes` meets its contract: what has to follow is asked for byte by byte.
+-- `two_bytes` meets its contract: enough bytes are left, and each of them is asked whether it may follow.
 -- Assumes nothing.
-use Rattle.text.proofs.Widths.{one-there, asked, on, off}
+use native.Mathlib.Omega.{arith}
+use Rattle.text.proofs.Widths.{one-there, asked, cut, on, off}
 use borrow.Author.Needs.{needs}
 use Rattle.text.proofs.two_bytes.Statement.{statement}
 use Rattle.text.proofs.two_bytes.Tie as tie
 
-add-stands : tie.Need-add-stands
-add-stands c = search needs
-
-stands-requires : tie.Need-stands-requires
-stands-requires c κs = search needs
+add-if1 : tie.Need-add-if1
+add-if1 c = search needs
 
 returns : tie.Need-returns
-returns c = off (asked (c .before .before .before .pre)) (c .before .stands .ensures) (c .if1 .taken)
+returns c = cut (c .before .before .pre) (omega arith)
+
+add-between : tie.Need-add-between
+add-between c = search needs
+
+shared-slice-read-between : tie.Need-shared-slice-read-between
+shared-slice-read-between c = search needs
+
+between-requires : tie.Need-between-requires
+between-requires c κs = search needs
 
 returns-2 : tie.Need-returns-2
-returns-2 c = one-there (on (asked (c .before .before .before .pre)) (c .before .stands .ensures) (c .if1 .left))
+returns-2 c =
+    let first = c .before .before .before in
+    off (asked (first .before .before .pre)) (omega arith) (c .before .between .ensures) (c .if2 .taken)
+
+returns-3 : tie.Need-returns-3
+returns-3 c =
+    let first = c .before .before .before in
+    one-there (on (asked (first .before .before .pre)) (omega arith) (c .before .between .ensures) (c .if2 .left))
 
 pub two-bytes-spec : {M : Type 1} → statement M
-two-bytes-spec = tie.close (tie.spec add-stands stands-requires returns returns-2)
+two-bytes-spec =
+    tie.close
+    (tie.spec
+    add-if1
+    returns
+    add-between
+    shared-slice-read-between
+    between-requires
+    returns-2
+    returns-3)

@@ -1,60 +1,52 @@
--- `wrong_length` meets its contract, rule by rule.
+-- `wrong_length` meets its contract: each arm asks the rule of its own kind.
 -- Assumes nothing.
-use mathlib.Core.Path.{_≡_, sym, ap, _∙_}
-use mathlib.Core.Bool.{not}
-use Prim.Native.Nat.{ℕ, _%_}
+use mathlib.Core.Path.{_≡_}
 use native.Mathlib.Omega.{arith}
-use lib.Dec.{eqb, ltb}
-use lib.ListN.{length}
-use denote.Ref.{now}
-use Rattle.rfc.specs.Values.{exactly, atLeast, multiple, ruleFor}
-use Rattle.rfc.proofs.Readings.{length-by, multiple-of-some}
-use Rattle.values.specs.Reading.{modeOf}
-use Rattle.values.proofs.RuleNumbers.{is-exactly, is-at-least, is-multiple}
+use Rattle.facts.proofs.Ranges.{beyond}
 use borrow.Author.Needs.{needs}
 use Rattle.values.proofs.rules.wrong_length.Statement.{statement}
 use Rattle.values.proofs.rules.wrong_length.Tie as tie
 
-rule-for-requires : tie.Need-rule-for-requires
-rule-for-requires c κs = search needs
-
-element-size-requires : tie.Need-element-size-requires
-element-size-requires c κs = search needs
-
-returns : tie.Need-returns
-returns c = let z = c .before in
-    let q = z .before in
-    let a = q .before .before .args in
-    ap (λ (k : ℕ). not (eqb (length (now (a .value))) k)) (z .element-size .ensures)
-    ∙ length-by (modeOf (a .strict)) (a .kind) (now (a .value)) exactly (is-exactly _ (sym (q .rule-for .ensures) ∙ c .if1 .taken))
-
-returns-2 : tie.Need-returns-2
-returns-2 c = let z = c .before .before in
-    let q = z .before in
-    let a = q .before .before .args in
-    ap (λ (k : ℕ). ltb (length (now (a .value))) k) (z .element-size .ensures)
-    ∙ length-by (modeOf (a .strict)) (a .kind) (now (a .value)) atLeast (is-at-least _ (sym (q .rule-for .ensures) ∙ c .if2 .taken))
-
-rem-result : tie.Need-rem-result
-rem-result c = let z = c .before .before in
-    let q = z .before in
-    let a = q .before .before .args in
-    let e = q .rule-for .ensures in
-    let rule : ruleFor (modeOf (a .strict)) (a .kind) ≡ multiple =
-    is-multiple _ (λ f. c .before .if1 .left (e ∙ f)) (λ f. c .if2 .left (e ∙ f)) in
-    omega (arith, z .element-size .ensures, multiple-of-some (modeOf (a .strict)) (a .kind) (q .before .before .pre) rule)
-
-returns-3 : tie.Need-returns-3
-returns-3 c = let z = c .before .before in
-    let q = z .before in
-    let a = q .before .before .args in
-    let e = q .rule-for .ensures in
-    let rule : ruleFor (modeOf (a .strict)) (a .kind) ≡ multiple =
-    is-multiple _ (λ f. c .before .if1 .left (e ∙ f)) (λ f. c .if2 .left (e ∙ f)) in
-    ap (λ (k : ℕ). not (eqb (length (now (a .value)) % k) 0)) (z .element-size .ensures)
-    ∙ length-by (modeOf (a .strict)) (a .kind) (now (a .value)) multiple rule
+-- the last arm is the flag's
+returns-16 : tie.Need-returns-16
+returns-16 c = let m = c .before in
+    let s = m .before .before in
+    let is : s .args .kind ≡ 15 = omega (arith, beyond (s .args .kind) 15 (m .match .rest), s .pre) in
+    cc (is, c .breaks-rule16 .ensures)
 
 pub wrong-length-spec : {M : Type 1} → statement M
 wrong-length-spec =
     tie.close
-    (tie.spec rule-for-requires element-size-requires returns returns-2 rem-result returns-3)
+    (tie.spec
+    (λ c κs. search needs)
+    (λ c κs. search needs)
+    (λ c κs. search needs)
+    (λ c κs. search needs)
+    (λ c κs. search needs)
+    (λ c κs. search needs)
+    (λ c κs. search needs)
+    (λ c κs. search needs)
+    (λ c κs. search needs)
+    (λ c κs. search needs)
+    (λ c κs. search needs)
+    (λ c κs. search needs)
+    (λ c κs. search needs)
+    (λ c κs. search needs)
+    (λ c κs. search needs)
+    (λ c κs. search needs)
+    (λ c. cc (c .before .match .keys1, c .breaks-rule .ensures))
+    (λ c. cc (c .before .match .keys2, c .breaks-rule2 .ensures))
+    (λ c. cc (c .before .match .keys3, c .breaks-rule3 .ensures))
+    (λ c. cc (c .before .match .keys4, c .breaks-rule4 .ensures))
+    (λ c. cc (c .before .match .keys5, c .breaks-rule5 .ensures))
+    (λ c. cc (c .before .match .keys6, c .breaks-rule6 .ensures))
+    (λ c. cc (c .before .match .keys7, c .breaks-rule7 .ensures))
+    (λ c. cc (c .before .match .keys8, c .breaks-rule8 .ensures))
+    (λ c. cc (c .before .match .keys9, c .breaks-rule9 .ensures))
+    (λ c. cc (c .before .match .keys10, c .breaks-rule10 .ensures))
+    (λ c. cc (c .before .match .keys11, c .breaks-rule11 .ensures))
+    (λ c. cc (c .before .match .keys12, c .breaks-rule12 .ensures))
+    (λ c. cc (c .before .match .keys13, c .breaks-rule13 .ensures))
+    (λ c. cc (c .before .match .keys14, c .breaks-rule14 .ensures))
+    (λ c. cc (c .before .match .keys15, c .breaks-rule15 .ensures))
+    returns-16)

@@ -1,10 +1,10 @@
 -- `byte_of` meets its contract, case by case.
 -- Assumes nothing.
 use mathlib.Core.Path.{sym, ap}
 use Rattle.values.specs.Reading.{byteOf}
 use borrow.Author.Needs.{needs}
-use Rattle.typed.proofs.byte_of.Statement.{statement}
-use Rattle.typed.proofs.byte_of.Tie as tie
+use Rattle.values.proofs.byte_of.Statement.{statement}
+use Rattle.values.proofs.byte_of.Tie as tie
 
 enum-told : tie.Need-enum-told
 enum-told c = search needs

@@ -1,0 +1,43 @@
+-- Checks that decide alike, and writes that answer and leave the same.
+-- Assumes nothing.
+use mathlib.Core.Path.{_≡_, refl, ap, _∙_}
+use Prim.Native.Nat.{ℕ, _+_}
+use mathlib.Core.Bool.{Bool, false}
+use mathlib.Core.List.{List, [], _∷_, _++_}
+use lib.ListN.{length}
+use Rattle.rfc.specs.Numbers.{Answer, given, noRoom, Check, check, checked}
+use Rattle.rfc.specs.Writing.{Write, writeChecks, answerTo, roomLeft, roomAfter}
+
+-- two runs of checks that decide alike: the tests that may hold are the same, with the same numbers
+pub data Alike : List Check → List Check → Type 0 where
+  none : Alike [] []
+  both : {t u : Bool} {n : ℕ} {cs ds : List Check} → t ≡ u → Alike cs ds → Alike (check t n ∷ cs) (check u n ∷ ds)
+  passes-left : {t : Bool} {n : ℕ} {cs ds : List Check} → t ≡ false → Alike cs ds → Alike (check t n ∷ cs) ds
+  passes-right : {t : Bool} {n : ℕ} {cs ds : List Check} → t ≡ false → Alike cs ds → Alike cs (check t n ∷ ds)
+
+pub alike : {A : Type 0} {cs ds : List Check} (answer : Answer A) → Alike cs ds → checked cs answer ≡ checked ds answer
+unfolding checked
+alike answer none = refl
+alike answer (both e a) = rw (e, alike answer a)
+alike answer (passes-left e a) = rw e (alike answer a)
+alike answer (passes-right e a) = rw e (alike answer a)
+
+-- with the same checks behind them
+pub alike-front : {cs ds : List Check} (es : List Check) → Alike cs ds → Alike (cs ++ es) (ds ++ es)
+alike-front [] none = none
+alike-front (check t n ∷ es) none = both refl (alike-front es none)
+alike-front es (both e a) = both e (alike-front es a)
+alike-front es (passes-left e a) = passes-left e (alike-front es a)
+alike-front es (passes-right e a) = passes-right e (alike-front es a)
+
+-- writes of the same bytes whose checks decide alike
+module _ {w v : Write} (room : List ℕ) (place : ℕ) (e : w .bytes ≡ v .bytes) (a : Alike (w .checks) (v .checks)) where
+  pub answers-alike : answerTo w room place ≡ answerTo v room place
+  unfolding answerTo writeChecks
+  answers-alike =
+      alike _ (alike-front _ a)
+      ∙ ap (λ (b : List ℕ). checked (v .checks ++ check (noRoom room place b) 8 ∷ []) (given (place + length b))) e
+
+  pub left-alike : roomAfter w room place ≡ roomAfter v room place
+  unfolding roomAfter
+  left-alike = ap (λ (r : Answer ℕ). roomLeft r room place (w .bytes)) answers-alike ∙ ap (roomLeft (answerTo v room place) room place) e
