@@ -1,7 +1,7 @@
 -- Runs of parts that are known by their numbers, as the code knows them.
 -- Assumes nothing.
 use mathlib.Core.Path.{_≡_, refl, sym, ap, _∙_}
-use Prim.Native.Nat.{ℕ, suc, _+_, _-_, _≤_}
+use Prim.Native.Nat.{ℕ, suc, _+_, _-_, _*_, _≤_}
 use native.Mathlib.Omega.{arith}
 use mathlib.Core.List.{List, [], _++_}
 use lib.ListN.{length, take, drop, getD, length-drop, length-append}
@@ -9,7 +9,7 @@ use lib.Seq.{length-take-le}
 use Rattle.rfc.specs.Walk as rfc
 use Rattle.rfc.specs.Walk.{cut, run, extend, further}
 use Rattle.rfc.proofs.Walk.{extend-cut, extend-run}
-use Rattle.rfc.proofs.Places.{further-more-at}
+use Rattle.rfc.proofs.Places.{further-more-at, run-within}
 use Rattle.borrowed.specs.Walked.{sizeOf, values}
 use Rattle.borrowed.specs.declared.parts.Run.{Run}
 use Rattle.borrowed.specs.declared.parts.Run.the-variants.{Cut, Whole}
@@ -22,6 +22,13 @@ whole-is parts len (run n vs) e = let a : n ≡ parts = cc in let b : length vs 
 pub cut-is : (r : rfc.Run) → Cut ≡ sizeOf r → r ≡ cut
 cut-is cut e = refl
 cut-is (run n vs) e = cc
+
+-- the further parts lie in the area
+pub run-ends : (area : List ℕ) (at code parts len : ℕ) → at ≤ length area → Whole parts len ≡ sizeOf (further code (drop at area))
+    → at + (2 * parts + len) ≤ length area
+run-ends area at code parts len h e =
+    let w = whole-is parts len (further code (drop at area)) e in
+    omega (arith, w .1, run-within code (drop at area) parts _ (w .0), length-drop at area)
 
 -- so many parts, with so many bytes, in front of a run
 abbrev pub grow : ℕ → ℕ → Run → Run

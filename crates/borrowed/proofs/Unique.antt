@@ -3,18 +3,19 @@
 use mathlib.Core.Path.{_≡_, refl, sym, ap, _∙_}
 use Prim.Native.Nat.{ℕ}
 use mathlib.Core.List.{List}
-use lib.ListN.{length}
 use denote.Ref.{now}
 use Rattle.facts.proofs.Unique.{Unique, UniqueLeft, UniqueShown}
-use Rattle.rfc.specs.Numbers.{Answer, given, refused, needs}
+use Rattle.rfc.specs.Numbers.{Answer}
 use Rattle.rfc.specs.Walk as rfc
-use Rattle.rfc.specs.Walk.{stop, option}
-use Rattle.borrowed.specs.Walked.{stopOf, says, Inside, Walked}
+pub use Rattle.borrowed.specs.Walked.{stopBack}
+use Rattle.borrowed.specs.Walked.{stopOf, sizes, says, Inside, Walked}
 use Rattle.borrowed.specs.declared.answer.Stop.{Stop}
 use Rattle.borrowed.specs.declared.answer.Stop.the-variants.{Out, End, CutLength, CutValue, CutContinuation}
 use Rattle.borrowed.specs.declared.answer.Step.{Step}
 use Rattle.borrowed.specs.declared.answer.Step.the-variants.{Stopped, Found, Refused, Needs}
 use Rattle.borrowed.proofs.Shown.{length-shown}
+use Rattle.borrowed.proofs.look.Kinds as look-kinds
+use Rattle.borrowed.proofs.look.Reads as look
 use Rattle.borrowed.proofs.step.Kinds as step-kinds
 use Rattle.borrowed.proofs.step.Reads as step
 use Rattle.borrowed.proofs.part.Kinds as part-kinds
@@ -25,29 +26,14 @@ use Rattle.borrowed.proofs.place_after.Kinds as place-after-kinds
 use Rattle.borrowed.proofs.place_after.Reads as place-after
 
 -- back from what is said to who said it
-pub stopBack : rfc.Stop → Stop
-stopBack rfc.out = Out
-stopBack rfc.end = End
-stopBack rfc.cutLength = CutLength
-stopBack rfc.cutValue = CutValue
-stopBack rfc.cutContinuation = CutContinuation
-
-back : Answer rfc.Found → Step
-back (given (stop s at)) = Stopped (stopBack s) at
-back (given (option code v n at)) = Found code n (length v) at
-back (refused k) = Refused k
-back (needs n) = Needs n
-
 pub stop-back : (s : Stop) → stopBack (stopOf s) ≡ s
-unfolding stopBack
 stop-back Out = refl
 stop-back End = refl
 stop-back CutLength = refl
 stop-back CutValue = refl
 stop-back CutContinuation = refl
 
-says-back : (r : Step) (area join : List ℕ) → Inside r area join → back (says r area join) ≡ r
-unfolding back
+says-back : (r : Step) (area join : List ℕ) → Inside r area join → sizes (says r area join) ≡ r
 says-back (Stopped s at) area join i = ap (λ (t : Stop). Stopped t at) (stop-back s)
 says-back (Found code parts len place) area join i =
     ap (λ (n : ℕ). Found code parts n place) (length-shown parts len place area join (i .0) (i .1) (i .2))
@@ -57,9 +43,12 @@ says-back (Needs n) area join i = refl
 pub walked-one : {area join j₁ j₂ : List ℕ} {r₁ r₂ : Step} {a : Answer rfc.Found}
     → Walked area join j₁ r₁ a → Walked area join j₂ r₂ a → (r₁ ≡ r₂) × (j₁ ≡ j₂)
 walked-one {area = area} {j₁ = j₁} {j₂ = j₂} {r₁ = r₁} {r₂ = r₂} p q = (
-  sym (says-back r₁ area j₁ (p .inside)) ∙ ap back (p .told ∙ sym (q .told)) ∙ says-back r₂ area j₂ (q .inside),
+  sym (says-back r₁ area j₁ (p .inside)) ∙ ap sizes (p .told ∙ sym (q .told)) ∙ says-back r₂ area j₂ (q .inside),
   p .kept ∙ sym (q .kept),
 )
+
+look-unique : Unique 1 look-kinds.ps look-kinds.r look.Post
+look-unique κs a x y s t p q = p ∙ sym q
 
 step-unique : UniqueLeft 2 step-kinds.ps step-kinds.r step.Post (λ κs s. now (s .1 .1 .0))
 step-unique κs a x y s t p q = walked-one p q

@@ -40,6 +40,8 @@ use Rattle.borrowed.proofs.header.Header.file.Kinds as file-kinds
 use Rattle.borrowed.proofs.header.Header.file.Reads as file
 use Rattle.borrowed.proofs.header.Header.area.Kinds as area-kinds
 use Rattle.borrowed.proofs.header.Header.area.Reads as area
+use Rattle.borrowed.proofs.header.Header.all.Kinds as all-kinds
+use Rattle.borrowed.proofs.header.Header.all.Reads as all
 
 -- back from what is said to who said it
 says-one : (r q : Number) → says r ≡ says q → r ≡ q
@@ -109,3 +111,6 @@ file-unique κs a x y s t p q = says-one-part x y (p ∙ sym q)
 
 area-unique : Unique 1 area-kinds.ps area-kinds.r area.Post
 area-unique κs a x y s t p q = says-one-area x y (p ∙ sym q)
+
+all-unique : Unique 1 all-kinds.ps all-kinds.r all.Post
+all-unique κs a x y s t p q = p ∙ sym q

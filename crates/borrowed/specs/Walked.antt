@@ -1,6 +1,6 @@
 -- What the contracts of the walk say, over the definitions of `Rattle.rfc.specs.Walk`.
 -- Assumes nothing.
-use Prim.Native.Nat.{ℕ, _+_, _-_, _≤_, _<_}
+use Prim.Native.Nat.{ℕ, _+_, _-_, _*_, _≤_, _<_}
 use mathlib.Core.Path.{_≡_}
 use mathlib.Core.List.{List, []}
 use mathlib.Core.Bool.{cond}
@@ -23,6 +23,21 @@ stopOf End = rfc.end
 stopOf CutLength = rfc.cutLength
 stopOf CutValue = rfc.cutValue
 stopOf CutContinuation = rfc.cutContinuation
+
+-- each stop's name in the code
+abbrev pub stopBack : rfc.Stop → Stop
+stopBack rfc.out = Out
+stopBack rfc.end = End
+stopBack rfc.cutLength = CutLength
+stopBack rfc.cutValue = CutValue
+stopBack rfc.cutContinuation = CutContinuation
+
+-- what is found, by its numbers
+abbrev pub sizes : Answer rfc.Found → Step
+sizes (given (stop s at)) = Stopped (stopBack s) at
+sizes (given (option code v n at)) = Found code n (length v) at
+sizes (refused k) = Refused k
+sizes (needs n) = Needs n
 
 -- the len bytes from `start` on, or none where they are not all there
 unfoldable pub partOf : List ℕ → ℕ → ℕ → List ℕ
@@ -84,12 +99,15 @@ abbrev pub values : rfc.Run → List ℕ
 values cut = []
 values (run n vs) = vs
 
--- at `at` stands a first part of `len` bytes, and behind it `parts` further ones with `more` bytes
-pub record Parted (area : List ℕ) (at code parts len more : ℕ) : Type 0 where
-  pub code-is : getD area at 0 ≡ code
-  pub len-is : getD area (at + 1) 0 ≡ len
-  pub within : at + 2 + len ≤ length area
-  pub rest : Whole parts more ≡ sizeOf (further code (drop (at + 2 + len) area))
+-- the joined values of the `parts` parts of `code`, `len` bytes of them, that end at `place`
+abbrev pub valueBefore : List ℕ → ℕ → ℕ → ℕ → ℕ → List ℕ
+valueBefore area code parts len place = values (further code (drop (place - 2 * parts - len) area))
+
+-- a call found an option of `parts` parts and `len` bytes that ends at `place`
+pub record Parted (area : List ℕ) (code parts len place : ℕ) : Type 0 where
+  pub from : ℕ
+  pub found : rfc.look area from ≡ given (option code (valueBefore area code parts len place) parts place)
+  pub long : length (valueBefore area code parts len place) ≡ len
 
 -- at `at` stand exactly `parts` parts of `code`, whose values fit in `room` bytes
 pub record AtPart (area : List ℕ) (at code parts room : ℕ) : Type 0 where

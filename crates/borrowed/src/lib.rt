@@ -7,16 +7,18 @@ mod parts;
 ghost use Prim.Native.Nat.{_≤_};
 ghost use mathlib.Core.Path.{_≡_};
 ghost use lib.ListN.{length, drop};
-ghost use Rattle.rfc.specs.Walk.{roomFor, walk};
-ghost use Rattle.borrowed.specs.Walked.{Walked, Stepped, Skipped, Ready, partOf, shown, placeOf};
+ghost use Rattle.rfc.specs.Numbers.{given};
+ghost use Rattle.rfc.specs.Walk as rfc;
+ghost use Rattle.borrowed.specs.Walked.{sizes, Stepped, Skipped, Ready, partOf, shown, placeOf};
+ghost use Rattle.borrowed.specs.declared.answer.Step.the-variants.{Found};
 use answer::Step;
 use answer::Stop;
 use limits::MOST_BYTES;
 use parts::Run;
 
-// One call at `place`. An option of two parts or more is joined in `join`.
-pub fn step(area: &[u8], place: usize, join: &mut [u8]) -> Step
-    ensures { λ r. ⌜ Stepped (now (area .entry)) place (now (join .entry)) (now (join .exit)) r ⌝ }
+// What a call at `place` finds; nothing is joined.
+pub fn look(area: &[u8], place: usize) -> Step
+    ensures { λ r. ⌜ r ≡ sizes (rfc.look (now (area .entry)) place) ⌝ }
 {
     if area.len() > MOST_BYTES {
         return Step::Refused(2);
@@ -25,7 +27,24 @@ pub fn step(area: &[u8], place: usize, join: &mut [u8]) -> Step
         return Step::Refused(4);
     }
     let at = skip_pads(area, place);
-    read(area, at, join)
+    read(area, at)
+}
+
+// One call at `place`. An option of two parts or more is joined in `join`.
+pub fn step(area: &[u8], place: usize, join: &mut [u8]) -> Step
+    ensures { λ r. ⌜ Stepped (now (area .entry)) place (now (join .entry)) (now (join .exit)) r ⌝ }
+{
+    match look(area, place) {
+        Step::Found {
+            code,
+            parts,
+            len,
+            place: to,
+        } => parts::finish(area, code, parts, len, to, join),
+        Step::Stopped(stop, at) => Step::Stopped(stop, at),
+        Step::Refused(number) => Step::Refused(number),
+        Step::Needs(len) => Step::Needs(len),
+    }
 }
 
 // The first place from `place` on that holds no Pad, or the area's end.
@@ -43,11 +62,10 @@ fn skip_pads(area: &[u8], place: usize) -> usize
     i
 }
 
-// A call at a place that holds no Pad.
-fn read(area: &[u8], at: usize, join: &mut [u8]) -> Step
+// What a call finds at a place that holds no Pad.
+fn read(area: &[u8], at: usize) -> Step
     requires { ⌜ Ready (now area) at ⌝ }
-    ensures { λ r. ⌜ Walked (now (area .entry)) (now (join .entry)) (now (join .exit)) r
-        (roomFor (length (now (join .entry))) (walk at (drop at (now (area .entry))))) ⌝ }
+    ensures { λ r. ⌜ r ≡ sizes (given (rfc.walk at (drop at (now (area .entry))))) ⌝ }
 {
     if at >= area.len() {
         return Step::Stopped(Stop::Out, at);
@@ -64,9 +82,32 @@ fn read(area: &[u8], at: usize, join: &mut [u8]) -> Step
         return Step::Stopped(Stop::CutValue, at + 2);
     }
     let next = at + 2 + len;
+    if next >= area.len() {
+        return alone(code, len, next);
+    }
+    if area[next] != code {
+        return alone(code, len, next);
+    }
     match parts::scan(area, next, code) {
         Run::Cut => Step::Stopped(Stop::CutContinuation, next),
-        Run::Whole { parts, len: more } => parts::finish(area, at, code, parts, len, more, join),
+        Run::Whole { parts, len: more } => Step::Found {
+            code,
+            parts: parts + 1,
+            len: len + more,
+            place: next + 2 * parts + more,
+        },
+    }
+}
+
+// An option of one part.
+fn alone(code: u8, len: usize, place: usize) -> Step
+    ensures { λ r. ⌜ r ≡ Found code 1 len place ⌝ }
+{
+    Step::Found {
+        code,
+        parts: 1,
+        len,
+        place,
     }
 }
 

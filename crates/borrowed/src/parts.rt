@@ -1,10 +1,10 @@
 // The parts of one option: they are counted and measured, then joined.
-ghost use Prim.Native.Nat.{_+_, _≤_};
+ghost use Prim.Native.Nat.{_≤_};
 ghost use mathlib.Core.Path.{_≡_};
-ghost use lib.ListN.{length, take, drop};
+ghost use lib.ListN.{length, drop};
 ghost use Rattle.facts.specs.Over.{over};
-ghost use Rattle.rfc.specs.Walk.{further, roomFor, joined};
-ghost use Rattle.borrowed.specs.Walked.{Walked, sizeOf, AtPart, Parted, values};
+ghost use Rattle.rfc.specs.Walk.{further, roomFor, option};
+ghost use Rattle.borrowed.specs.Walked.{Walked, sizeOf, AtPart, Parted, values, valueBefore};
 use crate::answer::Step;
 
 // The further parts of an option: one is cut, or so many, with so many bytes of values.
@@ -39,40 +39,35 @@ pub(crate) fn scan(area: &[u8], at: usize, code: u8) -> Run
     Run::Whole { parts, len }
 }
 
-// The answer for an option whose first part is at `at` with `len` bytes, and whose further parts are whole, `parts` of them with `more`
-// bytes.
+// The answer for an option that was found: one of two parts or more is joined, where there is room.
 pub(crate) fn finish(
     area: &[u8],
-    at: usize,
     code: u8,
     parts: usize,
     len: usize,
-    more: usize,
+    place: usize,
     join: &mut [u8],
 ) -> Step
-    requires { ⌜ Parted (now area) at code parts len more ⌝ }
+    requires { ⌜ Parted (now area) code parts len place ⌝ }
     ensures { λ r. ⌜ Walked (now (area .entry)) (now (join .entry)) (now (join .exit)) r
-        (roomFor (length (now (join .entry)))
-        (joined code (take len (drop (at + 2) (now (area .entry)))) (at + 2 + len) (further code (drop (at + 2 + len) (now (area .entry)))))) ⌝ }
+        (roomFor (length (now (join .entry))) (option code (valueBefore (now (area .entry)) code parts len place) parts place)) ⌝ }
 {
-    let total = len + more;
-    let place = at + 2 + len + 2 * parts + more;
-    if parts == 0 {
+    if parts < 2 {
         return Step::Found {
             code,
-            parts: 1,
+            parts,
             len,
             place,
         };
     }
-    if total > join.len() {
-        return Step::Needs(total);
+    if len > join.len() {
+        return Step::Needs(len);
     }
-    join_parts(area, at, code, parts + 1, join);
+    join_parts(area, place - 2 * parts - len, code, parts, join);
     Step::Found {
         code,
-        parts: parts + 1,
-        len: total,
+        parts,
+        len,
         place,
     }
 }

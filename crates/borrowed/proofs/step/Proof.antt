@@ -1,45 +1,72 @@
--- `step` meets its contract: two checks, then the walk behind the Pads.
+-- `step` meets its contract: an option that was found is finished, and all else passes through.
 -- Assumes nothing.
-use mathlib.Core.Path.{ap, _∙_}
+use mathlib.Core.Path.{sym, _∙_}
 use borrow.Author.Needs.{needs}
-use lib.ListN.{length}
-use Rattle.rfc.specs.Walk.{roomFor}
-use Rattle.rfc.proofs.Walk.{step-2, step-4, step-walks}
-use Rattle.borrowed.proofs.Answers.{refuses, same-answer}
+use Rattle.borrowed.proofs.Answers.{passes-on, parted, finishes}
 use Rattle.borrowed.proofs.step.Statement.{statement}
 use Rattle.borrowed.proofs.step.Tie as tie
 
-returns : tie.Need-returns
-returns c =
-    let a = c .before .before .before .args in
-    refuses (a .area .now) (a .join .now) _ 2 (step-2 (a .area .now) (a .place) (length (a .join .now)) (c .if1 .taken))
+look-requires : tie.Need-look-requires
+look-requires c κs = search needs
 
-returns-2 : tie.Need-returns-2
-returns-2 c =
-    let a = c .before .before .before .before .args in
-    refuses (a .area .now) (a .join .now) _ 4
-    (step-4 (a .area .now) (a .place) (length (a .join .now)) (c .before .if1 .left) (c .if2 .taken))
+enum-known-code : tie.Need-enum-known-code
+enum-known-code c = search needs
 
-skip-pads-requires : tie.Need-skip-pads-requires
-skip-pads-requires c κs = search needs
+finish-requires : tie.Need-finish-requires
+finish-requires c κs =
+    let looked = c .before .before .before .before in
+    let a = looked .before .before .before .args in
+    parted (a .area .now) (a .place) _ _ _ _ (sym (c .before .before .code .given .1) ∙ looked .look .ensures)
 
-read-requires : tie.Need-read-requires
-read-requires c κs =
-    let skipped = c .before .skip-pads .ensures in
-    record { within = skipped .within; other = skipped .other }
+enum-known-stop : tie.Need-enum-known-stop
+enum-known-stop c = search needs
+
+enum-known-number : tie.Need-enum-known-number
+enum-known-number c = search needs
+
+enum-known-len : tie.Need-enum-known-len
+enum-known-len c = search needs
 
 same-length : tie.Need-same-length
 same-length c = search needs
 
+returns : tie.Need-returns
+returns c =
+    let known = c .before .before .before .before .before in
+    let looked = known .before .before in
+    let a = looked .before .before .before .args in
+    finishes (a .area .now) (a .place) _ _ _ _ (sym (known .code .given .1) ∙ looked .look .ensures) (c .before .before .finish .ensures)
+
+returns-2 : tie.Need-returns-2
+returns-2 c =
+    let looked = c .before .before .before in
+    let a = looked .before .before .before .args in
+    passes-on (a .area .now) (a .join .now) (a .place) _ (sym (c .before .stop .given .1) ∙ looked .look .ensures) tt
+
 returns-3 : tie.Need-returns-3
 returns-3 c =
-    let tested = c .before .before .before .before .before in
-    let a = tested .before .before .before .before .args in
-    let room = length (a .join .now) in
-    let walks = step-walks (a .area .now) (a .place) room (tested .before .if1 .left) (tested .if2 .left) in
-    let skipped = c .before .before .before .before .skip-pads .ensures in
-    same-answer (walks ∙ ap (roomFor room) (skipped .same)) (c .before .before .read .ensures)
+    let looked = c .before .before .before in
+    let a = looked .before .before .before .args in
+    passes-on (a .area .now) (a .join .now) (a .place) _ (sym (c .before .number .given .1) ∙ looked .look .ensures) tt
+
+returns-4 : tie.Need-returns-4
+returns-4 c =
+    let looked = c .before .before .before in
+    let a = looked .before .before .before .args in
+    passes-on (a .area .now) (a .join .now) (a .place) _ (sym (c .before .len .given .1) ∙ looked .look .ensures) tt
 
 pub step-spec : {M : Type 1} → statement M
 step-spec =
-    tie.close (tie.spec returns returns-2 skip-pads-requires read-requires same-length returns-3)
+    tie.close
+    (tie.spec
+    look-requires
+    enum-known-code
+    finish-requires
+    enum-known-stop
+    enum-known-number
+    enum-known-len
+    same-length
+    returns
+    returns-2
+    returns-3
+    returns-4)
