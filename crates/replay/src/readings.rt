@@ -1,9 +1,9 @@
 // The plain reading of a value, told as the crate's was recorded: the number of the value's kind and its content, or 255 and the number of
 // the refusal. A list is its count (2 bytes) and its elements.
 use crate::pages;
-use sindovaleph::answers::Element;
-use sindovaleph::answers::Value;
-use sindovaleph::reading;
+use crossing::answers::Element;
+use crossing::answers::Value;
+use sindovaleph_typed::reading;
 
 // Stands before the number of a refusal.
 const REFUSED: u8 = 255;

@@ -1,7 +1,77 @@
-// The boundary to programs in Rust and in C: each function stands for one of the library, takes numbers and slices, and answers a plain
-// struct by value. `answers` has the structs, `reading` what reads a message, `writing` what writes options, and `crossing` makes a struct
-// of an answer of the library.
-pub mod answers;
-mod crossing;
-pub mod reading;
-pub mod writing;
+// The boundary to programs in Rust and in C, for the header, the walk and options as bytes: each function stands for one of the library, takes numbers and
+// slices, and answers a plain struct by value. The boundary is several crates, so that in the archive of each one function alone reaches the walk, the
+// reading and the writing of an option: the compiler then makes one piece of it.
+ghost use mathlib.Core.Path.{_≡_};
+ghost use Rattle.rfc.specs.Header as rfc;
+ghost use Rattle.rfc.specs.Kinds.{kindOf};
+ghost use Rattle.rfc.specs.Text.{utf8};
+ghost use Rattle.rfc.specs.Writing.{writeBytes, close};
+ghost use Rattle.borrowed.specs.Header.{allOf};
+ghost use Rattle.crossing.specs.Carried.{fieldOf, Stepped, Wrote};
+use borrowed::header::Fields;
+use borrowed::header::Header;
+use crossing::answers::Field;
+use crossing::answers::Step;
+use crossing::answers::Written;
+
+// All fields of the header.
+#[no_mangle]
+pub extern "C" fn sindovaleph_header(message: &[u8]) -> Fields
+    ensures { λ r. ⌜ r ≡ allOf (now (message .entry)) ⌝ }
+{
+    Header::all(message)
+}
+
+// The transaction's number alone, for callers that sort messages before they read them.
+#[no_mangle]
+pub extern "C" fn sindovaleph_xid(message: &[u8]) -> Field
+    ensures { λ r. ⌜ r ≡ fieldOf (rfc.field rfc.xid (now (message .entry))) ⌝ }
+{
+    crossing::field_of(Header::xid(message))
+}
+
+// The kind of a code.
+#[no_mangle]
+pub extern "C" fn sindovaleph_kind_of(code: u8) -> u8
+    ensures { λ r. ⌜ r ≡ kindOf code ⌝ }
+{
+    kinds::kind_of(code)
+}
+
+// Whether bytes are UTF-8.
+#[no_mangle]
+pub extern "C" fn sindovaleph_is_utf8(text: &[u8]) -> bool
+    ensures { λ r. ⌜ r ≡ utf8 (now (text .entry)) ⌝ }
+{
+    text::is_utf8(text)
+}
+
+// One call of the walk at `place`. An option of two parts or more is joined in `join`.
+#[no_mangle]
+pub extern "C" fn sindovaleph_step(area: &[u8], place: usize, join: &mut [u8]) -> Step
+    ensures { λ r. ⌜ Stepped (now (area .entry)) place (now (join .entry)) (now (join .exit)) r ⌝ }
+{
+    crossing::step_of(borrowed::step(area, place, join), place)
+}
+
+// A byte value.
+#[no_mangle]
+pub extern "C" fn sindovaleph_write_bytes(
+    room: &mut [u8],
+    place: usize,
+    code: u8,
+    value: &[u8],
+) -> Written
+    ensures { λ r. ⌜ Wrote (writeBytes code (now (value .entry)) (now (room .entry)) place)
+        (now (room .entry)) (now (room .exit)) place r ⌝ }
+{
+    crossing::written_of(options::write_bytes(room, place, code, value), place)
+}
+
+// End.
+#[no_mangle]
+pub extern "C" fn sindovaleph_close(room: &mut [u8], place: usize) -> Written
+    ensures { λ r. ⌜ Wrote (close (now (room .entry)) place) (now (room .entry)) (now (room .exit)) place r ⌝ }
+{
+    crossing::written_of(options::close(room, place), place)
+}
