@@ -1,0 +1,267 @@
+/*
+ * DHCP messages, read and written: the library's boundary for C and C++, on x86-64 Linux.
+ *
+ * Link libsindovaleph.a, libsindovaleph_typed.a, libsindovaleph_rows.a and libsindovaleph_lines.a, or those that are
+ * called; ./archives in the repository's root builds them in target/staticlib.
+ *
+ * Every function takes whatever bytes, lengths and places it is lent and ends with an answer or the number of a
+ * refusal. It needs valid memory and no more: each pointer, which is never NULL, has as many elements as the length
+ * behind it says, and what is written to overlaps nothing else that is lent. No pointer is kept.
+ *
+ * In every answer `refused` is the number of a refusal, 0 for none. Where one is given, all else is 0 and a place is
+ * the one that was given, and nothing that was lent is changed.
+ */
+#ifndef SINDOVALEPH_H
+#define SINDOVALEPH_H
+
+#include <stdbool.h>
+#include <stddef.h>
+#include <stdint.h>
+
+#ifdef __cplusplus
+extern "C" {
+#endif
+
+/* The refusals. */
+enum {
+    SINDOVALEPH_REFUSED_MESSAGE_TOO_SHORT = 1, /* the message has fewer than 240 bytes */
+    SINDOVALEPH_REFUSED_TOO_LONG = 2,          /* a message, area, room or value to be read: more than 65,535 bytes */
+    SINDOVALEPH_REFUSED_CHADDR_PAST_END = 3,   /* hlen says more bytes than the message has from byte 28 on */
+    SINDOVALEPH_REFUSED_PAST_END = 4,          /* a place is past the end, or an index is not below the count */
+    SINDOVALEPH_REFUSED_JOIN_TOO_SHORT = 5,    /* an option of several parts is longer than the join buffer */
+    SINDOVALEPH_REFUSED_NO_SUCH_CODE = 6,      /* the code is 0 or 255, which have no value */
+    SINDOVALEPH_REFUSED_VALUE_TOO_LONG = 7,    /* the value to be written has more than 4,080 bytes */
+    SINDOVALEPH_REFUSED_NO_ROOM = 8,           /* what is to be written does not fit from the place to the room's end */
+    SINDOVALEPH_REFUSED_OTHER_KIND = 9,        /* a typed write names a code of another kind */
+    SINDOVALEPH_REFUSED_WRONG_LENGTH = 10,     /* the value's length is wrong for its kind */
+    SINDOVALEPH_REFUSED_NOT_UTF8 = 11,         /* text is not UTF-8 */
+    SINDOVALEPH_REFUSED_WIDTH_ABOVE32 = 12,    /* a route's width is above 32 */
+    SINDOVALEPH_REFUSED_ODD_PAIRS = 13,        /* a list of pairs has an odd number of addresses */
+    SINDOVALEPH_REFUSED_UNCLEAR_YES_NO = 14    /* strict reading: a yes/no byte is neither 0 nor 1 */
+};
+
+/* Why a walk stopped. A stop is no refusal: the place moves, and a further call goes on from there. */
+enum {
+    SINDOVALEPH_STOP_OUT = 1,             /* no byte is left */
+    SINDOVALEPH_STOP_END = 2,             /* End, 255 */
+    SINDOVALEPH_STOP_CUT_LENGTH = 3,      /* a code stands at the area's end, with no length */
+    SINDOVALEPH_STOP_CUT_VALUE = 4,       /* a length is beyond what is left */
+    SINDOVALEPH_STOP_CUT_CONTINUATION = 5 /* a further part of an option is cut */
+};
+
+/* The kinds of value. */
+enum {
+    SINDOVALEPH_KIND_RAW = 0,
+    SINDOVALEPH_KIND_ADDRESS = 1,
+    SINDOVALEPH_KIND_ADDRESSES = 2,
+    SINDOVALEPH_KIND_PAIRS = 3,
+    SINDOVALEPH_KIND_BYTE = 4,
+    SINDOVALEPH_KIND_YES_NO = 5,
+    SINDOVALEPH_KIND_U16 = 6,
+    SINDOVALEPH_KIND_U16S = 7,
+    SINDOVALEPH_KIND_U32 = 8,
+    SINDOVALEPH_KIND_I32 = 9,
+    SINDOVALEPH_KIND_TEXT = 10,
+    SINDOVALEPH_KIND_CODES = 11,
+    SINDOVALEPH_KIND_NODE_TYPE = 12,
+    SINDOVALEPH_KIND_MESSAGE_TYPE = 13,
+    SINDOVALEPH_KIND_THREE_BYTES = 14,
+    SINDOVALEPH_KIND_FLAG = 15
+};
+
+/* All fields of the fixed header. */
+typedef struct {
+    uint32_t xid;
+    uint32_t ciaddr;
+    uint32_t yiaddr;
+    uint32_t siaddr;
+    uint32_t giaddr;
+    uint16_t secs;
+    uint16_t flags;
+    uint16_t sname; /* how many bytes from 44 on stand before the first zero */
+    uint16_t file;  /* how many bytes from 108 on stand before the first zero */
+    uint8_t refused;
+    uint8_t op;
+    uint8_t htype;
+    uint8_t hlen; /* chaddr is so many bytes from 28 on */
+    uint8_t hops;
+    uint8_t chaddr_refused; /* 3 where chaddr's bytes are not all there, else 0 */
+    bool wrong_magic;       /* if not, the area of options is all bytes from 240 on */
+} SindovalephFields;
+
+/* One field of the header. */
+typedef struct {
+    size_t refused;
+    size_t number;
+} SindovalephField;
+
+/* One call of the walk: an option or a stop. With one part the value is the `len` bytes of the area before `place`,
+   with more the first `len` bytes of the join buffer. Refusal 5 says in `len` how many are needed. */
+typedef struct {
+    uint8_t refused;
+    uint8_t stop; /* 0 for an option */
+    uint8_t code;
+    size_t parts;
+    size_t len;
+    size_t place; /* where a further call goes on */
+} SindovalephStep;
+
+/* What a value reads as. As a number yes is 1, seconds are in two's complement, and of three bytes the first is the
+   highest. */
+typedef struct {
+    uint8_t refused;
+    uint8_t kind;
+    uint32_t number; /* of a kind that has one */
+    size_t count;    /* how many elements a list has */
+} SindovalephValue;
+
+/* An element of a list. Only a pair has a second number. */
+typedef struct {
+    uint8_t refused;
+    uint32_t first;
+    uint32_t second;
+} SindovalephElement;
+
+/* What a write answers. */
+typedef struct {
+    uint8_t refused;
+    size_t place; /* behind what was written */
+} SindovalephWritten;
+
+/* What a listing answers. */
+typedef struct {
+    uint8_t refused;
+    uint8_t stop; /* 0 where the rows are full */
+    size_t rows;  /* how many are filled */
+    size_t place; /* where a further call goes on */
+} SindovalephListed;
+
+/* An option in a listing, as in SindovalephStep. Rows are lent as numbers: `&rows[0].code`, and 4 for each row. */
+typedef struct {
+    size_t code;
+    size_t parts;
+    size_t len;
+    size_t place;
+} SindovalephRow;
+
+/* An option in a typed listing, as in SindovalephStep and SindovalephValue: 8 numbers a row. Nothing is joined: an
+   option of two parts or more is refused with 5, unless it is empty. */
+typedef struct {
+    size_t code;
+    size_t parts;
+    size_t len;
+    size_t place;
+    size_t refused;
+    size_t kind;
+    size_t number;
+    size_t count;
+} SindovalephReadRow;
+
+/* An option to be written, and where its value stands in the lent values: 3 numbers a row. */
+typedef struct {
+    size_t code;
+    size_t start;
+    size_t len;
+} SindovalephWriteRow;
+
+/* What a write of rows answers. The first row that is refused ends it; its number is answered where it is the first of
+   all, and else by a further call from there. */
+typedef struct {
+    uint8_t refused;
+    size_t rows;  /* how many were written */
+    size_t place; /* behind them */
+} SindovalephWrittenRows;
+
+/* A classless route. Of the destination the first bytes are written as they stand, unmasked. */
+typedef struct {
+    uint8_t width;
+    uint32_t destination;
+    uint32_t gateway;
+} SindovalephRoute;
+
+/* libsindovaleph.a: the header, the walk, options as bytes. */
+
+/* All fields of the header. */
+SindovalephFields sindovaleph_header(const uint8_t *message, size_t message_len);
+
+/* The transaction's number alone, for who sorts messages before reading them. */
+SindovalephField sindovaleph_xid(const uint8_t *message, size_t message_len);
+
+/* The kind of a code. */
+uint8_t sindovaleph_kind_of(uint8_t code);
+
+/* Whether bytes are UTF-8. */
+bool sindovaleph_is_utf8(const uint8_t *text, size_t text_len);
+
+/* One call of the walk at a place of an area. An option of two parts or more is joined in `join`. */
+SindovalephStep sindovaleph_step(const uint8_t *area, size_t area_len, size_t place, uint8_t *join, size_t join_len);
+
+/* Writes a byte value at a place of a room. */
+SindovalephWritten sindovaleph_write_bytes(uint8_t *room, size_t room_len, size_t place, uint8_t code,
+                                           const uint8_t *value, size_t value_len);
+
+/* Writes End. */
+SindovalephWritten sindovaleph_close(uint8_t *room, size_t room_len, size_t place);
+
+/* libsindovaleph_rows.a: all options in one call. */
+
+/* Lists the options from a place on, a SindovalephRow for each, until the first stop or until the rows are full. */
+SindovalephListed sindovaleph_list(const uint8_t *area, size_t area_len, size_t place, size_t *rows, size_t numbers);
+
+/* The same with what each option reads as, plainly or strictly: a SindovalephReadRow for each. */
+SindovalephListed sindovaleph_read_list(const uint8_t *area, size_t area_len, size_t place, size_t *rows,
+                                        size_t numbers, bool strict);
+
+/* Writes an option for each SindovalephWriteRow, as byte values. */
+SindovalephWrittenRows sindovaleph_write_list(uint8_t *room, size_t room_len, size_t place, const size_t *rows,
+                                              size_t numbers, const uint8_t *values, size_t values_len);
+
+/* libsindovaleph_typed.a: typed values. */
+
+/* What the value of an option with this code reads as, plainly or strictly. */
+SindovalephValue sindovaleph_read(uint8_t code, const uint8_t *value, size_t value_len, bool strict);
+
+/* The element at an index of a list. */
+SindovalephElement sindovaleph_element(uint8_t code, const uint8_t *value, size_t value_len, size_t index);
+
+/* Each of these writes a value of one kind, and takes a code of that kind. */
+SindovalephWritten sindovaleph_write_address(uint8_t *room, size_t room_len, size_t place, uint8_t code,
+                                             uint32_t address);
+SindovalephWritten sindovaleph_write_byte(uint8_t *room, size_t room_len, size_t place, uint8_t code, uint8_t byte);
+SindovalephWritten sindovaleph_write_yes_no(uint8_t *room, size_t room_len, size_t place, uint8_t code, bool yes);
+SindovalephWritten sindovaleph_write_u16(uint8_t *room, size_t room_len, size_t place, uint8_t code, uint16_t number);
+SindovalephWritten sindovaleph_write_u32(uint8_t *room, size_t room_len, size_t place, uint8_t code, uint32_t number);
+SindovalephWritten sindovaleph_write_i32(uint8_t *room, size_t room_len, size_t place, uint8_t code, int32_t number);
+SindovalephWritten sindovaleph_write_text(uint8_t *room, size_t room_len, size_t place, uint8_t code,
+                                          const uint8_t *text, size_t text_len);
+SindovalephWritten sindovaleph_write_node_type(uint8_t *room, size_t room_len, size_t place, uint8_t code,
+                                               uint8_t byte);
+SindovalephWritten sindovaleph_write_message_type(uint8_t *room, size_t room_len, size_t place, uint8_t code,
+                                                  uint8_t byte);
+SindovalephWritten sindovaleph_write_three_bytes(uint8_t *room, size_t room_len, size_t place, uint8_t code,
+                                                 uint8_t first, uint8_t second, uint8_t third);
+SindovalephWritten sindovaleph_write_flag(uint8_t *room, size_t room_len, size_t place, uint8_t code);
+SindovalephWritten sindovaleph_write_addresses(uint8_t *room, size_t room_len, size_t place, uint8_t code,
+                                               const uint32_t *addresses, size_t count);
+SindovalephWritten sindovaleph_write_pairs(uint8_t *room, size_t room_len, size_t place, uint8_t code,
+                                           const uint32_t *addresses, size_t count);
+SindovalephWritten sindovaleph_write_u16s(uint8_t *room, size_t room_len, size_t place, uint8_t code,
+                                          const uint16_t *u16s, size_t count);
+SindovalephWritten sindovaleph_write_codes(uint8_t *room, size_t room_len, size_t place, uint8_t code,
+                                           const uint8_t *codes, size_t count);
+
+/* Writes the table of classless routes, option 121. */
+SindovalephWritten sindovaleph_write_routes(uint8_t *room, size_t room_len, size_t place,
+                                            const SindovalephRoute *routes, size_t count);
+
+/* libsindovaleph_lines.a: the listing of a message as text. */
+
+/* Writes it at a place of a room. */
+SindovalephWritten sindovaleph_write_listing(uint8_t *room, size_t room_len, size_t place, const uint8_t *message,
+                                             size_t message_len);
+
+#ifdef __cplusplus
+}
+#endif
+
+#endif

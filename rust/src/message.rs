@@ -1,0 +1,174 @@
+//! The message: its fixed header, and where its options stand.
+
+use crate::calls::{self, Fields};
+use crate::options::Options;
+use crate::refusal::{Refusal, checked};
+use crate::rows::{self, Listed, ReadRow, Row};
+use core::net::Ipv4Addr;
+
+// Where the parts of a message begin (RFC 2131, figure 1) that are shown as bytes.
+const CHADDR: usize = 28;
+const SNAME: usize = 44;
+const FILE: usize = 108;
+const OPTIONS: usize = 240;
+
+/// A DHCP message, whose bytes are lent. [`Message::new`] reads the whole header in one call.
+#[derive(Clone, Copy, Debug)]
+pub struct Message<'a> {
+    bytes: &'a [u8],
+    fields: Fields,
+}
+
+impl<'a> Message<'a> {
+    /// Reads the header. Refused are fewer than 240 bytes ([`Refusal::MessageTooShort`]) and more than 65,535
+    /// ([`Refusal::TooLong`]), and nothing else: a wrong `hlen` is told by [`Message::chaddr`].
+    #[inline]
+    pub fn new(bytes: &'a [u8]) -> Result<Message<'a>, Refusal> {
+        let fields = calls::header(bytes);
+        checked(fields.refused)?;
+        Ok(Message { bytes, fields })
+    }
+
+    /// The bytes of the message, as they were lent.
+    #[inline]
+    pub fn bytes(&self) -> &'a [u8] {
+        self.bytes
+    }
+
+    /// op: 1 from a client, 2 from a server.
+    #[inline]
+    pub fn opcode(&self) -> u8 {
+        self.fields.op
+    }
+
+    /// The type of the hardware address: 1 is Ethernet.
+    #[inline]
+    pub fn htype(&self) -> u8 {
+        self.fields.htype
+    }
+
+    /// The length of the hardware address, as the message says it.
+    #[inline]
+    pub fn hlen(&self) -> u8 {
+        self.fields.hlen
+    }
+
+    /// How many relays the message came through.
+    #[inline]
+    pub fn hops(&self) -> u8 {
+        self.fields.hops
+    }
+
+    /// The number of the transaction.
+    #[inline]
+    pub fn xid(&self) -> u32 {
+        self.fields.xid
+    }
+
+    /// The seconds since the client began.
+    #[inline]
+    pub fn secs(&self) -> u16 {
+        self.fields.secs
+    }
+
+    /// The flags: the highest bit, 0x8000, asks for answers by broadcast.
+    #[inline]
+    pub fn flags(&self) -> u16 {
+        self.fields.flags
+    }
+
+    /// The client's address, where it has one.
+    #[inline]
+    pub fn ciaddr(&self) -> Ipv4Addr {
+        Ipv4Addr::from_bits(self.fields.ciaddr)
+    }
+
+    /// The address that the client is given.
+    #[inline]
+    pub fn yiaddr(&self) -> Ipv4Addr {
+        Ipv4Addr::from_bits(self.fields.yiaddr)
+    }
+
+    /// The address of the next server.
+    #[inline]
+    pub fn siaddr(&self) -> Ipv4Addr {
+        Ipv4Addr::from_bits(self.fields.siaddr)
+    }
+
+    /// The address of the relay.
+    #[inline]
+    pub fn giaddr(&self) -> Ipv4Addr {
+        Ipv4Addr::from_bits(self.fields.giaddr)
+    }
+
+    /// The hardware address: `hlen` bytes. They may be more than chaddr's own 16 and run into sname; where they are
+    /// more than the message has, that is [`Refusal::ChaddrPastEnd`].
+    #[inline]
+    pub fn chaddr(&self) -> Result<&'a [u8], Refusal> {
+        checked(self.fields.chaddr_refused)?;
+        Ok(self.shown(CHADDR, usize::from(self.fields.hlen)))
+    }
+
+    /// The server's name, up to its first zero.
+    #[inline]
+    pub fn sname(&self) -> &'a [u8] {
+        self.shown(SNAME, usize::from(self.fields.sname))
+    }
+
+    /// The name of the boot file, up to its first zero.
+    #[inline]
+    pub fn fname(&self) -> &'a [u8] {
+        self.shown(FILE, usize::from(self.fields.file))
+    }
+
+    /// Whether the magic stands before the options, as it does in every DHCP message.
+    #[inline]
+    pub fn has_magic(&self) -> bool {
+        !self.fields.wrong_magic
+    }
+
+    /// The area of the options: all bytes behind the magic. With another magic it is empty.
+    #[inline]
+    pub fn area(&self) -> &'a [u8] {
+        if self.fields.wrong_magic {
+            return &[];
+        }
+        self.bytes.get(OPTIONS..).unwrap_or(&[])
+    }
+
+    /// The options, one after the other. What has several parts is joined in `join`; one of the area's length suffices
+    /// for every message, and `&mut []` for one without such options.
+    #[inline]
+    pub fn opts<'j>(&self, join: &'j mut [u8]) -> Options<'j>
+    where
+        'a: 'j,
+    {
+        Options::new(self.area(), join)
+    }
+
+    /// All options in one call, from the first on: see [`list`](rows::list).
+    #[inline]
+    pub fn list(&self, rows: &mut [Row]) -> Result<Listed, Refusal> {
+        rows::list(self.area(), 0, rows)
+    }
+
+    /// All options and their values in one call, from the first on: see [`read_list`](rows::read_list).
+    #[inline]
+    pub fn read_list(&self, rows: &mut [ReadRow], strict: bool) -> Result<Listed, Refusal> {
+        rows::read_list(self.area(), 0, rows, strict)
+    }
+
+    /// So many bytes from a start on. The header's answer has it that they are there.
+    #[inline]
+    fn shown(&self, start: usize, len: usize) -> &'a [u8] {
+        self.bytes.get(start..).and_then(|from| from.get(..len)).unwrap_or(&[])
+    }
+}
+
+/// The number of the transaction alone, for who sorts messages before reading them.
+#[inline]
+pub fn xid(message: &[u8]) -> Result<u32, Refusal> {
+    let field = calls::xid(message);
+    checked(field.refused as u8)?;
+    Ok(field.number as u32)
+}

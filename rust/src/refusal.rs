@@ -1,0 +1,69 @@
+//! Why something is refused.
+
+use core::fmt;
+
+numbered! {
+    /// Why something is refused, by its number. A refusal changes nothing that was lent, and no place moves.
+    pub enum Refusal {
+        /// The message has fewer than 240 bytes.
+        MessageTooShort = 1,
+        /// A message, an area, a room or a value to be read has more than 65,535 bytes.
+        TooLong = 2,
+        /// `hlen` says that chaddr has more bytes than the message has from byte 28 on.
+        ChaddrPastEnd = 3,
+        /// A place is past the end, or an element's index is not below the count.
+        PastEnd = 4,
+        /// An option of two or more parts is longer than the room to join it in.
+        JoinTooShort = 5,
+        /// The code is 0 or 255, which have no value.
+        NoSuchCode = 6,
+        /// The value to be written has more than 4,080 bytes.
+        ValueTooLong = 7,
+        /// What is to be written does not fit from the place to the room's end.
+        NoRoom = 8,
+        /// A typed write names a code of another kind.
+        OtherKind = 9,
+        /// The value's length is wrong for its kind.
+        WrongLength = 10,
+        /// Text is not UTF-8.
+        NotUtf8 = 11,
+        /// A route's width is above 32.
+        WidthAbove32 = 12,
+        /// A list of pairs has an odd number of addresses.
+        OddPairs = 13,
+        /// Strict reading: a yes/no byte is neither 0 nor 1.
+        UnclearYesNo = 14,
+    }
+}
+
+impl fmt::Display for Refusal {
+    fn fmt(&self, f: &mut fmt::Formatter<'_>) -> fmt::Result {
+        f.write_str(match self {
+            Refusal::MessageTooShort => "the message has fewer than 240 bytes",
+            Refusal::TooLong => "there are more than 65,535 bytes",
+            Refusal::ChaddrPastEnd => "the hardware address is longer than the message",
+            Refusal::PastEnd => "the place or the index is past the end",
+            Refusal::JoinTooShort => "the room to join the option's parts in is too short",
+            Refusal::NoSuchCode => "the codes 0 and 255 have no value",
+            Refusal::ValueTooLong => "the value has more than 4,080 bytes",
+            Refusal::NoRoom => "there is no room for what is to be written",
+            Refusal::OtherKind => "the code is of another kind",
+            Refusal::WrongLength => "the value's length is wrong for its kind",
+            Refusal::NotUtf8 => "the text is not UTF-8",
+            Refusal::WidthAbove32 => "a route's width is above 32",
+            Refusal::OddPairs => "a list of pairs has an odd number of addresses",
+            Refusal::UnclearYesNo => "the yes/no byte is neither 0 nor 1",
+        })
+    }
+}
+
+impl core::error::Error for Refusal {}
+
+/// What a number that crossed the boundary says: 0 is no refusal, and none is above 14.
+#[inline]
+pub(crate) fn checked(number: u8) -> Result<(), Refusal> {
+    match number {
+        0 => Ok(()),
+        _ => Err(Refusal::from_number(number).unwrap_or(Refusal::UnclearYesNo)),
+    }
+}

@@ -1,0 +1,205 @@
+//! Options, written into a lent room.
+
+pub use crate::calls::{Route, WriteRow};
+
+use crate::calls::{self, Written};
+use crate::refusal::{Refusal, checked};
+use crate::value::NodeType;
+use core::net::Ipv4Addr;
+
+/// Writes options into a lent room, one behind the other.
+///
+/// Each write moves the place behind what it wrote and changes exactly those bytes; a refusal changes nothing. Byte
+/// values go to every code from 1 to 254, typed ones to a code of their kind ([`kind_of`](crate::kind_of)), and
+/// [`Refusal::OtherKind`] tells another. A value has at most 4,080 bytes; above 255 it is written in parts, lists in
+/// parts of whole elements. An empty value or list writes nothing.
+#[derive(Debug)]
+pub struct Writer<'a> {
+    room: &'a mut [u8],
+    place: usize,
+}
+
+impl<'a> Writer<'a> {
+    /// Writes from the room's first byte on.
+    #[inline]
+    pub fn new(room: &'a mut [u8]) -> Writer<'a> {
+        Writer::at(room, 0)
+    }
+
+    /// Writes from a place on: 240 is behind the header of a message.
+    #[inline]
+    pub fn at(room: &'a mut [u8], place: usize) -> Writer<'a> {
+        Writer { room, place }
+    }
+
+    /// The place in the room where the next write begins.
+    #[inline]
+    pub fn place(&self) -> usize {
+        self.place
+    }
+
+    /// The room up to the place: all that was written, and what stood before it.
+    #[inline]
+    pub fn written(&self) -> &[u8] {
+        self.room.get(..self.place).unwrap_or(&[])
+    }
+
+    /// Bytes as they stand, to any code from 1 to 254.
+    #[inline]
+    pub fn bytes(&mut self, code: u8, value: &[u8]) -> Result<(), Refusal> {
+        let written = calls::write_bytes(self.room, self.place, code, value);
+        self.moved(written)
+    }
+
+    /// An address.
+    #[inline]
+    pub fn address(&mut self, code: u8, address: Ipv4Addr) -> Result<(), Refusal> {
+        let written = calls::write_address(self.room, self.place, code, address.to_bits());
+        self.moved(written)
+    }
+
+    /// A byte.
+    #[inline]
+    pub fn byte(&mut self, code: u8, byte: u8) -> Result<(), Refusal> {
+        let written = calls::write_byte(self.room, self.place, code, byte);
+        self.moved(written)
+    }
+
+    /// Yes or no.
+    #[inline]
+    pub fn yes_no(&mut self, code: u8, yes: bool) -> Result<(), Refusal> {
+        let written = calls::write_yes_no(self.room, self.place, code, yes);
+        self.moved(written)
+    }
+
+    /// A number of two bytes.
+    #[inline]
+    pub fn u16(&mut self, code: u8, number: u16) -> Result<(), Refusal> {
+        let written = calls::write_u16(self.room, self.place, code, number);
+        self.moved(written)
+    }
+
+    /// A number of four bytes.
+    #[inline]
+    pub fn u32(&mut self, code: u8, number: u32) -> Result<(), Refusal> {
+        let written = calls::write_u32(self.room, self.place, code, number);
+        self.moved(written)
+    }
+
+    /// A number of four bytes in two's complement.
+    #[inline]
+    pub fn i32(&mut self, code: u8, number: i32) -> Result<(), Refusal> {
+        let written = calls::write_i32(self.room, self.place, code, number);
+        self.moved(written)
+    }
+
+    /// Text.
+    #[inline]
+    pub fn text(&mut self, code: u8, text: &str) -> Result<(), Refusal> {
+        let written = calls::write_text(self.room, self.place, code, text.as_bytes());
+        self.moved(written)
+    }
+
+    /// A node type.
+    #[inline]
+    pub fn node_type(&mut self, code: u8, node: NodeType) -> Result<(), Refusal> {
+        let written = calls::write_node_type(self.room, self.place, code, node.into());
+        self.moved(written)
+    }
+
+    /// A message type.
+    #[inline]
+    pub fn message_type(&mut self, code: u8, byte: u8) -> Result<(), Refusal> {
+        let written = calls::write_message_type(self.room, self.place, code, byte);
+        self.moved(written)
+    }
+
+    /// Three bytes.
+    #[inline]
+    pub fn three_bytes(&mut self, code: u8, bytes: [u8; 3]) -> Result<(), Refusal> {
+        let written = calls::write_three_bytes(self.room, self.place, code, bytes);
+        self.moved(written)
+    }
+
+    /// A flag, which has no value.
+    #[inline]
+    pub fn flag(&mut self, code: u8) -> Result<(), Refusal> {
+        let written = calls::write_flag(self.room, self.place, code);
+        self.moved(written)
+    }
+
+    /// Addresses, each as the number that [`Ipv4Addr::to_bits`] gives.
+    #[inline]
+    pub fn addresses(&mut self, code: u8, addresses: &[u32]) -> Result<(), Refusal> {
+        let written = calls::write_addresses(self.room, self.place, code, addresses);
+        self.moved(written)
+    }
+
+    /// Pairs of addresses, one address behind the other.
+    #[inline]
+    pub fn pairs(&mut self, code: u8, addresses: &[u32]) -> Result<(), Refusal> {
+        let written = calls::write_pairs(self.room, self.place, code, addresses);
+        self.moved(written)
+    }
+
+    /// Numbers of two bytes.
+    #[inline]
+    pub fn u16s(&mut self, code: u8, numbers: &[u16]) -> Result<(), Refusal> {
+        let written = calls::write_u16s(self.room, self.place, code, numbers);
+        self.moved(written)
+    }
+
+    /// Codes of options.
+    #[inline]
+    pub fn codes(&mut self, code: u8, codes: &[u8]) -> Result<(), Refusal> {
+        let written = calls::write_codes(self.room, self.place, code, codes);
+        self.moved(written)
+    }
+
+    /// Classless routes, option 121 (RFC 3442).
+    #[inline]
+    pub fn routes(&mut self, routes: &[Route]) -> Result<(), Refusal> {
+        let written = calls::write_routes(self.room, self.place, routes);
+        self.moved(written)
+    }
+
+    /// An option for each row, as byte values out of `values`, and how many were written. The first row that is refused
+    /// ends it: where it is the first of all its refusal is answered, and else a further call with the rows that are
+    /// left tells it.
+    #[inline]
+    pub fn list(&mut self, rows: &[WriteRow], values: &[u8]) -> Result<usize, Refusal> {
+        let written = calls::write_list(self.room, self.place, rows, values);
+        self.moved(Written { refused: written.refused, place: written.place })?;
+        Ok(written.rows)
+    }
+
+    /// End, 255, behind the last option.
+    #[inline]
+    pub fn close(&mut self) -> Result<(), Refusal> {
+        let written = calls::close(self.room, self.place);
+        self.moved(written)
+    }
+
+    /// Goes on behind what was written. A refusal answers the old place.
+    #[inline]
+    fn moved(&mut self, written: Written) -> Result<(), Refusal> {
+        self.place = written.place;
+        checked(written.refused)
+    }
+}
+
+impl WriteRow {
+    /// An option with this code, whose value is `len` bytes of the values from `start` on.
+    #[inline]
+    pub const fn new(code: u8, start: usize, len: usize) -> WriteRow {
+        WriteRow { code: code as usize, start, len }
+    }
+}
+
+impl Route {
+    /// A route to a destination with a mask of `width` bits.
+    #[inline]
+    pub const fn new(width: u8, destination: Ipv4Addr, gateway: Ipv4Addr) -> Route {
+        Route { width, destination: destination.to_bits(), gateway: gateway.to_bits() }
+    }
+}

@@ -1,0 +1,127 @@
+//! The header for C and C++: it compiles by itself without a warning, its numbers are those of this crate, and the
+//! example walks.
+
+mod common;
+
+use common::layouts;
+use sindovaleph::{Kind, Refusal, Stop};
+use std::env;
+use std::fs;
+use std::path::{Path, PathBuf};
+use std::process::{Command, Output};
+
+const WARNINGS: [&str; 4] = ["-Wall", "-Wextra", "-Werror", "-pedantic"];
+
+/// A command by the words of an environment variable, or else by a name.
+fn command(variable: &str, otherwise: &str) -> Command {
+    let words = env::var(variable).unwrap_or_default();
+    let mut words = words.split_whitespace();
+    let mut command = Command::new(words.next().unwrap_or(otherwise));
+    command.args(words);
+    command
+}
+
+/// The C compiler for x86-64 Linux.
+fn c_compiler() -> Command {
+    // The tests are x86-64 programs wherever they run: the machine's own processor is asked of `uname`.
+    let machine = Command::new("uname").arg("-m").output().expect("uname runs");
+    let native = machine.stdout.starts_with(b"x86_64");
+    command("CC", if native { "cc" } else { "x86_64-linux-gnu-gcc" })
+}
+
+fn here(path: &str) -> PathBuf {
+    Path::new(env!("CARGO_MANIFEST_DIR")).join(path)
+}
+
+/// A file of the tests' own folder.
+fn scratch(name: &str, text: &str) -> PathBuf {
+    let path = Path::new(env!("CARGO_TARGET_TMPDIR")).join(name);
+    fs::write(&path, text).expect("the tests' folder can be written to");
+    path
+}
+
+fn succeeded(command: &mut Command) -> Output {
+    let output = command.output().unwrap_or_else(|error| panic!("{command:?} could not be run: {error}"));
+    assert!(output.status.success(), "{command:?}\n{}", String::from_utf8_lossy(&output.stderr));
+    output
+}
+
+/// Compiles a text without a warning.
+fn compiles(compiler: &mut Command, name: &str, text: &str) {
+    let source = scratch(name, text);
+    succeeded(compiler.args(WARNINGS).arg("-fsyntax-only").arg("-I").arg(here("include")).arg(source));
+}
+
+#[test]
+fn the_header_compiles_alone_as_c() {
+    for standard in ["-std=c99", "-std=c11", "-std=gnu17"] {
+        compiles(c_compiler().arg(standard), &format!("alone{standard}.c"), "#include \"sindovaleph.h\"\n");
+    }
+}
+
+#[test]
+fn the_header_compiles_alone_as_cpp() {
+    if command("CXX", "c++").arg("--version").output().is_err() {
+        println!("there is no C++ compiler here");
+        return;
+    }
+    compiles(command("CXX", "c++").arg("-std=c++11"), "alone.cpp", "#include \"sindovaleph.h\"\n");
+}
+
+#[test]
+fn the_structs_of_the_header_have_the_same_layout() {
+    let mut text = String::from("#include \"sindovaleph.h\"\n");
+    let mut says = |left: String, right: usize| text += &format!("_Static_assert({left} == {right}, \"\");\n");
+    for layout in layouts() {
+        says(format!("sizeof(Sindovaleph{})", layout.name), layout.size);
+        says(format!("_Alignof(Sindovaleph{})", layout.name), layout.align);
+        for (field, offset) in layout.fields {
+            says(format!("offsetof(Sindovaleph{}, {field})", layout.name), offset);
+        }
+    }
+    compiles(c_compiler().arg("-std=c11"), "layout.c", &text);
+}
+
+/// `CutLength` as `CUT_LENGTH`.
+fn in_capitals(name: &str) -> String {
+    let mut text = String::new();
+    for (i, letter) in name.char_indices() {
+        if i > 0 && letter.is_uppercase() {
+            text.push('_');
+        }
+        text.push(letter.to_ascii_uppercase());
+    }
+    text
+}
+
+#[test]
+fn the_names_of_the_header_have_the_same_numbers() {
+    let mut text = String::from("#include \"sindovaleph.h\"\n");
+    let mut says = |group: &str, name: String, number: u8| {
+        text += &format!("_Static_assert(SINDOVALEPH_{group}_{} == {number}, \"\");\n", in_capitals(&name));
+    };
+    for number in 0..=255 {
+        Refusal::from_number(number).inspect(|refusal| says("REFUSED", format!("{refusal:?}"), number));
+        Stop::from_number(number).inspect(|stop| says("STOP", format!("{stop:?}"), number));
+        Kind::from_number(number).inspect(|kind| says("KIND", format!("{kind:?}"), number));
+    }
+    assert_eq!(text.lines().count(), 1 + 14 + 5 + 16);
+    compiles(c_compiler().arg("-std=c11"), "numbers.c", &text);
+}
+
+#[test]
+fn the_example_walks() {
+    let program = scratch("walk", "");
+    let mut compiler = c_compiler();
+    compiler.args(WARNINGS).arg("-I").arg(here("include")).arg(here("examples/walk.c"));
+    compiler.arg(Path::new(env!("SINDOVALEPH_FOLDER")).join("libsindovaleph.a")).arg("-o").arg(&program);
+    succeeded(&mut compiler);
+    let runner = "CARGO_TARGET_X86_64_UNKNOWN_LINUX_GNU_RUNNER";
+    let path = program.to_string_lossy();
+    let mut run = command(runner, &path);
+    if env::var(runner).is_ok_and(|words| !words.trim().is_empty()) {
+        run.arg(&program);
+    }
+    let output = succeeded(&mut run);
+    assert_eq!(String::from_utf8_lossy(&output.stdout), "option 53 has 1 bytes\noption 12 has 4 bytes\nstop 2 at 12\n");
+}

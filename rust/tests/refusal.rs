@@ -1,0 +1,45 @@
+//! The refusals by their numbers.
+
+use sindovaleph::Refusal::{self, *};
+use std::collections::BTreeSet;
+use std::error::Error;
+
+const ALL: [Refusal; 14] = [
+    MessageTooShort,
+    TooLong,
+    ChaddrPastEnd,
+    PastEnd,
+    JoinTooShort,
+    NoSuchCode,
+    ValueTooLong,
+    NoRoom,
+    OtherKind,
+    WrongLength,
+    NotUtf8,
+    WidthAbove32,
+    OddPairs,
+    UnclearYesNo,
+];
+
+#[test]
+fn numbers_are_1_to_14() {
+    for (refusal, number) in ALL.into_iter().zip(1..) {
+        assert_eq!(refusal.number(), number);
+        assert_eq!(Refusal::from_number(number), Some(refusal));
+    }
+    assert_eq!((0..=255).filter_map(Refusal::from_number).collect::<Vec<_>>(), ALL);
+}
+
+#[test]
+fn each_says_a_sentence_of_its_own() {
+    let sentences: BTreeSet<String> = ALL.iter().map(Refusal::to_string).collect();
+    assert_eq!(sentences.len(), 14);
+    assert!(sentences.iter().all(|sentence| sentence.contains(' ') && !sentence.ends_with('.')));
+}
+
+#[test]
+fn it_is_an_error_of_one_byte() {
+    let error: Box<dyn Error> = Box::new(ChaddrPastEnd);
+    assert_eq!(error.to_string(), "the hardware address is longer than the message");
+    assert_eq!(size_of::<Result<(), Refusal>>(), 1);
+}
