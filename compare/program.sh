@@ -1,11 +1,10 @@
 # Shared by the commands of this folder, which source it: `run_program PROFILE NAME [ARGUMENT..]` makes all that the
-# programs of compare/src/bin need, and runs one of them; PROFILE is release or debug. `run_tests` runs the tests.
-# Paths among the arguments are taken from where the command was called.
+# programs of compare/src/bin need, and runs one of them; PROFILE is release, debug or lto. `build_program PROFILE NAME`
+# only builds it. `run_tests` runs the tests. Paths among the arguments are taken from where the command was called.
 
 compare_target=x86_64-unknown-linux-gnu
 compare_caller=$PWD
 compare_root=$(cd "$(dirname "$0")/.." && pwd) || exit 1
-compare_archive=target/staticlib/libsindovaleph.a
 
 # Says a sentence on standard error, and ends.
 give_up() {
@@ -24,17 +23,9 @@ need_rust() {
     give_up "the Rust toolchain has no standard library for $compare_target: add that target to it"
 }
 
-# The static library, built where it is missing or older than a source of a crate.
+# The static libraries, built where they are missing or older than a source of a crate.
 make_library() {
-    newer=$(find crates.txt crates -newer $compare_archive 2>/dev/null | grep -E '\.(rt|antt|txt)$' | head -n 1)
-    if [ -f $compare_archive ] && [ -z "$newer" ]; then
-        return
-    fi
-    command -v rt >/dev/null || give_up "rt is missing: the library is built by it (rt staticlib sindovaleph)"
-    echo "Building the library (rt staticlib sindovaleph): this takes a minute." >&2
-    rt staticlib sindovaleph >&2 || give_up "the library could not be built: rt staticlib sindovaleph failed"
-    [ -f $compare_archive ] || give_up "rt staticlib sindovaleph did not write $compare_archive"
-    touch $compare_archive
+    ./archives || give_up "the library could not be built: ./archives failed"
 }
 
 # The crate and all that it needs, unpacked where the archive is at hand.
@@ -79,18 +70,27 @@ prepare() {
     unpack_crates
 }
 
-run_program() {
-    if [ "$1" = release ]; then profile=--release; else profile=; fi
-    name=$2
-    shift 2
+# The words that tell cargo a profile.
+profile_words() {
+    case "$1" in release) echo --release ;; lto) echo --profile lto ;; esac
+}
+
+build_program() {
     prepare
     [ -d target/compare ] || echo "Building the comparison: this takes a minute." >&2
-    if ! cargo_here build -q $profile --bin "$name" >target/compare.log 2>&1; then
+    if ! cargo_here build -q $(profile_words "$1") --bin "$2" >target/compare.log 2>&1; then
         tail -n 20 target/compare.log >&2
         give_up "the comparison could not be built; target/compare.log has all that cargo said"
     fi
     cd "$compare_caller" || exit 1
-    cargo_here run -q $profile --bin "$name" -- "$@"
+}
+
+run_program() {
+    profile=$1
+    name=$2
+    shift 2
+    build_program "$profile" "$name"
+    cargo_here run -q $(profile_words "$profile") --bin "$name" -- "$@"
 }
 
 run_tests() {

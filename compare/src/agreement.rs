@@ -1,9 +1,9 @@
 //! Whether the crate's typed reading and document 01's say the same.
 
-use crate::library::Value;
 use crate::paper;
 use crate::theirs::{Content, Reading, content_of};
 use dhcproto::v4::OptionCode;
+use sindovaleph::calls::Value;
 
 /// Whether the crate reads a value under a code as document 01 does, refusals included.
 pub fn same_reading(code: u8, value: &[u8], theirs: &Reading) -> bool {

@@ -1,5 +1,5 @@
 //! The crate dhcproto and the library beside each other, in one process. `paper` is what document 01 says, `theirs` what the crate
-//! answers, `library` the proved side; `cases` holds them against each other, one call at a time.
+//! answers, `sindovaleph::calls` the proved side; `cases` holds them against each other, one call at a time.
 
 pub mod agreement;
 pub mod capture;
@@ -8,13 +8,13 @@ pub mod differences;
 pub mod findings;
 pub mod known;
 pub mod lent;
-pub mod library;
 pub mod listing;
 pub mod paper;
 pub mod progress;
 pub mod random;
 pub mod recorded;
 pub mod senders;
+pub mod speed;
 pub mod stored;
 pub mod sweeps;
 pub mod table;

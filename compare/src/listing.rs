@@ -20,14 +20,13 @@ fn list(text: &mut String, message: &[u8], theirs: &Message<'_>) {
     let fields = theirs::fields(theirs);
     let (op, htype, hlen, xid) = (fields.op, fields.htype, fields.hlen, fields.xid);
     let _ = writeln!(text, "message {} op {op} htype {htype} hlen {hlen} xid {xid}", message.len());
-    match theirs::chaddr(message, theirs) {
-        Some(span) => paper::number_list(text, "chaddr", &message[span.start..span.start + span.len]),
+    match theirs::chaddr(theirs) {
+        Some(bytes) => paper::number_list(text, "chaddr", bytes),
         None => text.push_str("chaddr refused 3\n"),
     }
-    if paper::area(message).wrong_magic {
-        text.push_str("magic wrong\n");
-    } else {
-        list_options(text, &message[paper::area(message).start..], theirs.opts());
+    match paper::area(message) {
+        Some(area) => list_options(text, area, theirs.opts()),
+        None => text.push_str("magic wrong\n"),
     }
 }
 

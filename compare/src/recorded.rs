@@ -2,12 +2,12 @@
 //!
 //! A record is one byte of kind (1 an area, 2 a reading, 3 a write), the input's length (2 bytes, the highest first), the input, the
 //! answer's length (2 bytes) and the answer. docs/RECORDED.md has what input and answer are.
-use crate::library::Route;
 use crate::paper::element_size;
 use crate::theirs::{self, Content, Reading};
 use dhcproto::Encodable;
 use dhcproto::v4::borrowed::Message;
 use dhcproto::v4::{DhcpOption, MAGIC, OptionCode};
+use sindovaleph::calls::Route;
 
 /// The bytes of a message before its magic.
 const HEADER: usize = 236;

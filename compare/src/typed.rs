@@ -1,6 +1,6 @@
 //! A value for each of the typed writers.
 
-use crate::library::{self, Written};
+use sindovaleph::calls::{self, Written};
 
 /// What is to be written, by its writer. A list of pairs is its addresses one behind the other.
 #[derive(Clone, Copy, Debug)]
@@ -63,21 +63,21 @@ impl Typed<'_> {
     /// The library's writer for it.
     pub fn write(&self, room: &mut [u8], place: usize, code: u8) -> Written {
         match *self {
-            Typed::Address(address) => library::write_address(room, place, code, address),
-            Typed::Addresses(list) => library::write_addresses(room, place, code, list),
-            Typed::Pairs(list) => library::write_pairs(room, place, code, list),
-            Typed::Byte(byte) => library::write_byte(room, place, code, byte),
-            Typed::YesNo(yes) => library::write_yes_no(room, place, code, yes),
-            Typed::U16(number) => library::write_u16(room, place, code, number),
-            Typed::U16s(list) => library::write_u16s(room, place, code, list),
-            Typed::U32(number) => library::write_u32(room, place, code, number),
-            Typed::I32(number) => library::write_i32(room, place, code, number),
-            Typed::Text(bytes) => library::write_text(room, place, code, bytes),
-            Typed::Codes(codes) => library::write_codes(room, place, code, codes),
-            Typed::NodeType(byte) => library::write_node_type(room, place, code, byte),
-            Typed::MessageType(byte) => library::write_message_type(room, place, code, byte),
-            Typed::ThreeBytes(bytes) => library::write_three_bytes(room, place, code, bytes),
-            Typed::Flag => library::write_flag(room, place, code),
+            Typed::Address(address) => calls::write_address(room, place, code, address),
+            Typed::Addresses(list) => calls::write_addresses(room, place, code, list),
+            Typed::Pairs(list) => calls::write_pairs(room, place, code, list),
+            Typed::Byte(byte) => calls::write_byte(room, place, code, byte),
+            Typed::YesNo(yes) => calls::write_yes_no(room, place, code, yes),
+            Typed::U16(number) => calls::write_u16(room, place, code, number),
+            Typed::U16s(list) => calls::write_u16s(room, place, code, list),
+            Typed::U32(number) => calls::write_u32(room, place, code, number),
+            Typed::I32(number) => calls::write_i32(room, place, code, number),
+            Typed::Text(bytes) => calls::write_text(room, place, code, bytes),
+            Typed::Codes(codes) => calls::write_codes(room, place, code, codes),
+            Typed::NodeType(byte) => calls::write_node_type(room, place, code, byte),
+            Typed::MessageType(byte) => calls::write_message_type(room, place, code, byte),
+            Typed::ThreeBytes(bytes) => calls::write_three_bytes(room, place, code, bytes),
+            Typed::Flag => calls::write_flag(room, place, code),
         }
     }
 }

@@ -1,10 +1,10 @@
 //! Asks the crate for the sample that the program `replay` goes over, and writes its answers to the file that the first argument names.
 //! The same command makes the same bytes. docs/RECORDED.md has what is in the sample, and the format.
-use compare::library::Route;
 use compare::paper::element_size;
 use compare::random::Random;
 use compare::recorded::{self, Asked, Record};
 use dhcproto::v4::DhcpOption;
+use sindovaleph::calls::Route;
 use std::collections::HashSet;
 use std::path::Path;
 

@@ -3,57 +3,56 @@
 use super::Bench;
 use crate::findings::Bytes;
 use crate::known::Known;
-use crate::library::{self, Span};
-use crate::paper;
-use crate::theirs;
+use crate::paper::{self, CHADDR, FILE, SNAME};
+use crate::theirs::{self, place_of};
 use dhcproto::v4::borrowed::Message;
+use sindovaleph::calls::{self, Fields};
 
 impl Bench {
-    /// The header and the places of its fields and of the area.
+    /// The header: all fields in one call, and the one field that has a call of its own.
     pub fn header(&mut self, message: &[u8]) {
         let call = format_args!("header of message {}", Bytes(message));
-        self.same(call, &library::header(message), &paper::header(message));
-        self.same(call, &library::chaddr(message), &paper::chaddr(message));
-        self.same(call, &library::sname(message), &paper::sname(message));
-        self.same(call, &library::file(message), &paper::file(message));
-        self.same(call, &library::area(message), &paper::area(message));
-        let refused = paper::header(message).refused;
+        let said = paper::header(message);
+        self.same(call, &calls::header(message), &said);
+        self.same(format_args!("xid of message {}", Bytes(message)), &calls::xid(message), &paper::xid(message));
         match Message::new(message) {
-            Err(_) => self.findings.same_crate(call, &1, &refused),
-            Ok(_) if refused == 2 => self.findings.known(Known::LongMessage),
-            Ok(theirs) => self.header_by_crate(message, &theirs),
+            Err(_) => self.findings.same_crate(call, &1, &said.refused),
+            Ok(_) if said.refused == 2 => self.findings.known(Known::LongMessage),
+            Ok(theirs) => self.header_by_crate(message, &said, &theirs),
         }
     }
 
     /// What the crate shows of a header that document 01 does not refuse.
-    fn header_by_crate(&mut self, message: &[u8], theirs: &Message<'_>) {
+    fn header_by_crate(&mut self, message: &[u8], said: &Fields, theirs: &Message<'_>) {
         let call = format_args!("header of message {}", Bytes(message));
-        self.findings.same_crate(call, &theirs::fields(theirs), &paper::header(message));
-        self.findings.same_crate(call, &theirs::sname(message, theirs), &Some(paper::sname(message)));
-        self.findings.same_crate(call, &theirs::file(message, theirs), &Some(paper::file(message)));
-        match (theirs::chaddr(message, theirs), paper::chaddr(message)) {
-            (None, Span { refused: 3, .. }) => self.findings.known(Known::AddressPastTheEnd),
-            (shown, said) => self.findings.same_crate(call, &shown, &Some(said)),
+        let sayable = Fields { chaddr_refused: 0, wrong_magic: false, ..*said };
+        self.findings.same_crate(call, &theirs::fields(theirs), &sayable);
+        let names = [theirs.sname(), theirs.fname()].map(|name| place_of(message, name));
+        self.findings.same_crate(call, &names, &[Some(SNAME), Some(FILE)]);
+        match theirs::chaddr(theirs) {
+            None if said.chaddr_refused == 3 => self.findings.known(Known::AddressPastTheEnd),
+            shown => {
+                let shown = shown.map(|bytes| (place_of(message, bytes), bytes.len()));
+                let told = (said.chaddr_refused == 0).then_some((Some(CHADDR), usize::from(said.hlen)));
+                self.findings.same_crate(call, &shown, &told);
+            }
         }
-        if paper::area(message).wrong_magic {
+        if said.wrong_magic {
             self.findings.same_crate(call, &theirs.opts().next().is_none(), &true);
             self.findings.known(Known::OtherMagic);
         }
     }
 
-    /// A whole message, and its listing. Calls of the walk are also made at these places of its area.
+    /// A whole message, and its listing. Calls of the walk and of the lists are also made at these places of its area.
     pub fn message(&mut self, message: &[u8], places: &[usize]) {
         self.header(message);
         self.listing(message);
-        let found = paper::area(message);
-        let Ok(theirs) = Message::new(message) else { return };
-        if found.refused > 0 || found.wrong_magic {
-            return;
-        }
-        let area = &message[found.start..found.start + found.len];
+        let (Some(area), Ok(theirs)) = (paper::area(message), Message::new(message)) else { return };
         self.walk(area, theirs.opts());
+        self.lists(area, 0);
         for &place in places {
             self.call_at(area, place, &[]);
+            self.lists(area, place);
         }
     }
 }

@@ -2,14 +2,17 @@
 
 mod listing;
 mod message;
+mod rows;
 mod values;
 mod walk;
 mod writes;
 
 use crate::findings::Findings;
-use crate::lent::Twins;
+use crate::lent::{Twins, byte_pattern};
 use crate::paper::MOST_BYTES;
 use crate::progress::Progress;
+use rows::{MOST_ROWS, read_row_pattern, row_pattern};
+use sindovaleph::calls::{ReadRow, Row};
 use std::fmt::{Arguments, Debug};
 
 /// How many cases pass between two looks at the clock.
@@ -21,8 +24,10 @@ pub struct Bench {
     pub findings: Findings,
     /// How far the work is.
     pub progress: Progress,
-    join: Twins,
-    room: Twins,
+    join: Twins<u8>,
+    room: Twins<u8>,
+    rows: Twins<Row>,
+    read_rows: Twins<ReadRow>,
     /// The value of the option that was found last.
     value: Vec<u8>,
 }
@@ -33,8 +38,10 @@ impl Bench {
         Bench {
             findings: Findings::default(),
             progress: Progress::new(),
-            join: Twins::new(2 * MOST_BYTES),
-            room: Twins::new(MOST_BYTES + 1),
+            join: Twins::new(2 * MOST_BYTES, byte_pattern),
+            room: Twins::new(MOST_BYTES + 1, byte_pattern),
+            rows: Twins::new(MOST_ROWS, row_pattern),
+            read_rows: Twins::new(MOST_ROWS, read_row_pattern),
             value: Vec::new(),
         }
     }

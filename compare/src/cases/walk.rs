@@ -3,10 +3,10 @@
 use super::Bench;
 use crate::findings::Bytes;
 use crate::known::Known;
-use crate::library::{self, Step};
 use crate::paper::{self, Found, MOST_BYTES};
 use crate::theirs::place_of;
 use dhcproto::v4::borrowed::{DhcpOption, DhcpOptionIterator};
+use sindovaleph::calls::{self, Step};
 
 /// The number of the stop "out".
 const OUT: u8 = 1;
@@ -14,7 +14,7 @@ const OUT: u8 = 1;
 impl Bench {
     /// One call with a join buffer of this size. The value that document 01 says is kept.
     fn step(&mut self, area: &[u8], place: usize, join: usize) -> Step {
-        let ours = library::step(area, place, self.join.library(join));
+        let ours = calls::step(area, place, self.join.library(join));
         let paper = paper::step(area, place, self.join.paper(join));
         let call = format_args!("step in area {} at {place}, to join in {join}", Bytes(area));
         self.same(call, &ours, &paper);

@@ -3,14 +3,14 @@
 use super::Bench;
 use crate::findings::Bytes;
 use crate::known;
-use crate::library::{self, Route, Written};
 use crate::paper;
 use crate::theirs;
 use crate::typed::Typed;
+use sindovaleph::calls::{self, Route, Written};
 use std::fmt::Arguments;
 
 /// Rooms and places for a write of so many bytes: exact ones, ones that lack a byte, larger ones, places at and past the end.
-fn rooms(bytes: usize) -> [(usize, usize); 8] {
+pub(super) fn rooms(bytes: usize) -> [(usize, usize); 8] {
     let one_short = bytes.saturating_sub(1);
     [(bytes, 0), (one_short, 0), (bytes + 17, 17), (one_short + 17, 17), (5, 5), (5, 6), (0, 0), (bytes + 40, 17)]
 }
@@ -71,7 +71,7 @@ impl Bench {
 
     /// A byte value to a code, into one room.
     pub fn write_bytes_into(&mut self, code: u8, value: &[u8], room: (usize, usize)) -> u8 {
-        let library = |room: &mut [u8], place: usize| library::write_bytes(room, place, code, value);
+        let library = |room: &mut [u8], place: usize| calls::write_bytes(room, place, code, value);
         let paper = |room: &mut [u8], place: usize| paper::write_bytes(room, place, code, value);
         self.write(format_args!("write to code {code} of bytes {}", Bytes(value)), room, library, paper).refused
     }
@@ -86,7 +86,7 @@ impl Bench {
 
     /// A table of routes, into one room.
     pub fn write_routes_into(&mut self, routes: &[Route], room: (usize, usize)) -> u8 {
-        let library = |room: &mut [u8], place: usize| library::write_routes(room, place, routes);
+        let library = |room: &mut [u8], place: usize| calls::write_routes(room, place, routes);
         let paper = |room: &mut [u8], place: usize| paper::write_routes(room, place, routes);
         let table = paper::routes_value(routes);
         self.write(format_args!("write of {} routes {}", routes.len(), Bytes(&table)), room, library, paper).refused
@@ -103,6 +103,6 @@ impl Bench {
 
     /// End, into one room.
     pub fn close(&mut self, room: (usize, usize)) {
-        self.write(format_args!("close"), room, library::close, paper::close);
+        self.write(format_args!("close"), room, calls::close, paper::close);
     }
 }

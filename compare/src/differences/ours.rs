@@ -1,7 +1,8 @@
 //! What the port answers, in document 01's words.
 
 use super::input::{ENOUGH, Input, Part, count, message, padded, shown};
-use crate::library::{self, Route, Span, Step, Value, Written};
+use crate::paper::{AREA, CHADDR, SNAME};
+use sindovaleph::calls::{self, Route, Step, Value, Written};
 
 /// The port's word where it has no such function.
 const NOT_PORTED: &str = "not ported";
@@ -36,14 +37,14 @@ pub fn answer(input: &Input) -> String {
         Input::Message { len, set, ref part } => part_of(&message(len, set), part),
         Input::Read { code, value } => read(code, value),
         Input::ReadLong { code, len } => read(code, &vec![7; len]),
-        Input::Again { code, value } => written(|room| library::write_bytes(room, 0, code, value)),
-        Input::Bytes { code, len, .. } => written(|room| library::write_bytes(room, 0, code, &vec![7; len])),
+        Input::Again { code, value } => written(|room| calls::write_bytes(room, 0, code, value)),
+        Input::Bytes { code, len, .. } => written(|room| calls::write_bytes(room, 0, code, &vec![7; len])),
         Input::Addresses { count: many } => {
-            written(|room| library::write_addresses(room, 0, 3, &vec![0x7f00_0001; many]))
+            written(|room| calls::write_addresses(room, 0, 3, &vec![0x7f00_0001; many]))
         }
         Input::Over { old } => over(old),
         Input::Routes { destination, width, count } => routes(destination, width, count),
-        Input::NoOptions => written(|room| library::close(room, 0)),
+        Input::NoOptions => written(|room| calls::close(room, 0)),
         Input::OwnedMessage { .. } | Input::OwnedOptions { .. } => NOT_PORTED.into(),
         Input::Chunks { .. } | Input::Name | Input::Status { .. } => NOT_PORTED.into(),
     }
@@ -65,44 +66,33 @@ fn step(step: Step, area: &[u8], join: &[u8]) -> String {
 fn walk(area: &[u8], calls: usize, join: &mut [u8]) -> String {
     let mut place = 0;
     let mut call = || {
-        let answer = library::step(area, place, join);
+        let answer = calls::step(area, place, join);
         place = answer.place;
         step(answer, area, join)
     };
     (0..calls).map(|_| call()).collect::<Vec<_>>().join("; ")
 }
 
-fn span(span: Span, bytes: &[u8]) -> String {
-    match span.refused {
-        0 => shown(&bytes[span.start..span.start + span.len]),
-        refused => format!("refused {refused}"),
-    }
-}
-
 fn part_of(bytes: &[u8], part: &Part) -> String {
+    let fields = calls::header(bytes);
     match part {
-        Part::Op => match library::header(bytes) {
-            fields if fields.refused != 0 => format!("refused {}", fields.refused),
-            fields => fields.op.to_string(),
-        },
-        Part::Chaddr => span(library::chaddr(bytes), bytes),
-        Part::Sname => span(library::sname(bytes), bytes),
-        Part::Options => options(bytes),
+        _ if fields.refused != 0 => format!("refused {}", fields.refused),
+        Part::Op => fields.op.to_string(),
+        Part::Chaddr if fields.chaddr_refused != 0 => format!("refused {}", fields.chaddr_refused),
+        Part::Chaddr => shown(&bytes[CHADDR..CHADDR + usize::from(fields.hlen)]),
+        Part::Sname => shown(&bytes[SNAME..SNAME + usize::from(fields.sname)]),
+        Part::Options if fields.wrong_magic => "wrong magic".into(),
+        Part::Options => options(&bytes[AREA..]),
     }
 }
 
 /// All options up to the first stop.
-fn options(bytes: &[u8]) -> String {
-    let area = library::area(bytes);
-    if area.refused != 0 || area.wrong_magic {
-        return if area.wrong_magic { "wrong magic".into() } else { format!("refused {}", area.refused) };
-    }
-    let area = &bytes[area.start..area.start + area.len];
+fn options(area: &[u8]) -> String {
     let mut join = vec![0; ENOUGH];
     let mut answers = Vec::new();
     let mut place = 0;
     loop {
-        let answer = library::step(area, place, &mut join);
+        let answer = calls::step(area, place, &mut join);
         answers.push(step(answer, area, &join));
         place = answer.place;
         if answer.stop != 0 || answer.refused != 0 {
@@ -127,15 +117,15 @@ fn value(value: Value) -> String {
 
 /// The plain reading, and the strict one where it is another.
 fn read(code: u8, bytes: &[u8]) -> String {
-    let plain = library::read(code, bytes, false);
-    let strict = library::read(code, bytes, true);
+    let plain = calls::read(code, bytes, false);
+    let strict = calls::read(code, bytes, true);
     if plain == strict { value(plain) } else { format!("{}, strict: {}", value(plain), value(strict)) }
 }
 
 /// The first option of an area, by its code and length; or the stop.
 fn first(area: &[u8]) -> String {
     let mut join = vec![0; ENOUGH];
-    match library::step(area, 0, &mut join) {
+    match calls::step(area, 0, &mut join) {
         Step { refused: 0, stop: 0, code, len, .. } => format!("{code} with {}", count(len)),
         answer => step(answer, area, &join),
     }
@@ -154,13 +144,13 @@ fn written(write: impl FnOnce(&mut [u8]) -> Written) -> String {
 /// A table of one route, so many times, through 192.0.2.1.
 fn routes(destination: [u8; 4], width: u8, times: usize) -> String {
     let route = Route { width, destination: u32::from_be_bytes(destination), gateway: 0xc000_0201 };
-    written(|room| library::write_routes(room, 0, &vec![route; times]))
+    written(|room| calls::write_routes(room, 0, &vec![route; times]))
 }
 
 /// An address written into a room of old bytes.
 fn over(old: usize) -> String {
     let mut room = vec![9; old];
-    match library::write_address(&mut room, 0, 1, 0x0102_0304) {
+    match calls::write_address(&mut room, 0, 1, 0x0102_0304) {
         Written { refused: 0, place } => shown(&room[..place]),
         Written { refused, .. } => format!("refused {refused}, room: {}", shown(&room)),
     }

@@ -1,77 +1,83 @@
 //! The fixed header (RFC 2131, section 2).
 
 use super::{LEAST_MESSAGE, MOST_BYTES, big_endian, first_refusal};
-use crate::library::{Area, Fields, Span};
+use sindovaleph::calls::{Field, Fields};
 
 const MAGIC: [u8; 4] = [99, 130, 83, 99];
+
+/// Where the fields stand that are no numbers, and the area of options.
+pub const CHADDR: usize = 28;
+pub const SNAME: usize = 44;
+pub const FILE: usize = 108;
+pub const AREA: usize = 240;
 
 /// The refusal of every reader of a message: 2, then 1.
 fn refusal(message: &[u8]) -> u8 {
     first_refusal(&[(message.len() > MOST_BYTES, 2), (message.len() < LEAST_MESSAGE, 1)])
 }
 
-/// The numbers of the header.
+/// A header that is refused: all else is 0.
+fn refused_header(refused: u8) -> Fields {
+    Fields {
+        refused,
+        op: 0,
+        htype: 0,
+        hlen: 0,
+        hops: 0,
+        xid: 0,
+        secs: 0,
+        flags: 0,
+        ciaddr: 0,
+        yiaddr: 0,
+        siaddr: 0,
+        giaddr: 0,
+        chaddr_refused: 0,
+        sname: 0,
+        file: 0,
+        wrong_magic: false,
+    }
+}
+
+/// All fields of the header.
 pub fn header(message: &[u8]) -> Fields {
     let refused = refusal(message);
-    let number = |start: usize, end: usize| {
-        if refused == 0 { big_endian(&message[start..=end]) } else { 0 }
-    };
+    if refused > 0 {
+        return refused_header(refused);
+    }
+    let number = |start: usize, end: usize| big_endian(&message[start..=end]);
     Fields {
-        refused: u32::from(refused),
-        op: number(0, 0),
-        htype: number(1, 1),
-        hlen: number(2, 2),
-        hops: number(3, 3),
+        refused,
+        op: message[0],
+        htype: message[1],
+        hlen: message[2],
+        hops: message[3],
         xid: number(4, 7),
-        secs: number(8, 9),
-        flags: number(10, 11),
+        secs: number(8, 9) as u16,
+        flags: number(10, 11) as u16,
         ciaddr: number(12, 15),
         yiaddr: number(16, 19),
         siaddr: number(20, 23),
         giaddr: number(24, 27),
+        chaddr_refused: first_refusal(&[(CHADDR + usize::from(message[2]) > message.len(), 3)]),
+        sname: up_to_zero(&message[SNAME..FILE]),
+        file: up_to_zero(&message[FILE..236]),
+        wrong_magic: message[236..AREA] != MAGIC,
     }
 }
 
-fn span(refused: u8, start: usize, len: usize) -> Span {
-    if refused > 0 { Span { refused, start: 0, len: 0 } } else { Span { refused, start, len } }
+/// How many bytes of a field stand before its first zero byte: all where it has none.
+fn up_to_zero(field: &[u8]) -> u16 {
+    field.iter().position(|&byte| byte == 0).unwrap_or(field.len()) as u16
 }
 
-/// The hlen bytes from 28 on.
-pub fn chaddr(message: &[u8]) -> Span {
-    let refused = refusal(message);
-    if refused > 0 {
-        return span(refused, 0, 0);
-    }
-    let hlen = usize::from(message[2]);
-    span(first_refusal(&[(28 + hlen > message.len(), 3)]), 28, hlen)
-}
-
-/// A field up to its first zero byte, or whole.
-fn up_to_zero(message: &[u8], start: usize, end: usize) -> Span {
-    let refused = refusal(message);
-    if refused > 0 {
-        return span(refused, 0, 0);
-    }
-    let field = &message[start..=end];
-    span(0, start, field.iter().position(|&byte| byte == 0).unwrap_or(field.len()))
-}
-
-/// The server's name.
-pub fn sname(message: &[u8]) -> Span {
-    up_to_zero(message, 44, 107)
-}
-
-/// The boot file's name.
-pub fn file(message: &[u8]) -> Span {
-    up_to_zero(message, 108, 235)
+/// The field xid alone.
+pub fn xid(message: &[u8]) -> Field {
+    let fields = header(message);
+    Field { refused: fields.refused.into(), number: fields.xid as usize }
 }
 
 /// The area of options: the bytes from 240 on, where the magic stands before them.
-pub fn area(message: &[u8]) -> Area {
-    let refused = refusal(message);
-    let wrong_magic = refused == 0 && message[236..240] != MAGIC;
-    if refused > 0 || wrong_magic {
-        return Area { refused, wrong_magic, start: 0, len: 0 };
-    }
-    Area { refused, wrong_magic, start: 240, len: message.len() - 240 }
+pub fn area(message: &[u8]) -> Option<&[u8]> {
+    let fields = header(message);
+    (fields.refused == 0 && !fields.wrong_magic).then(|| &message[AREA..])
 }

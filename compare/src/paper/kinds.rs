@@ -1,7 +1,7 @@
 //! The two tables of document 01, "Kinds of value".
 
 /// The kind of a code.
-pub fn kind_of(code: u8) -> u8 {
+pub const fn kind_of(code: u8) -> u8 {
     match code {
         1 | 16 | 28 | 32 | 50 | 54 | 118 | 150 => 1,
         3..=11 | 41 | 42 | 44 | 45 | 48 | 49 | 65 | 68..=76 | 89 | 92 => 2,

@@ -4,14 +4,16 @@
 mod header;
 mod kinds;
 mod listing;
+mod rows;
 mod text;
 mod values;
 mod walk;
 mod writing;
 
-pub use header::{area, chaddr, file, header, sname};
+pub use header::{AREA, CHADDR, FILE, SNAME, area, header, xid};
 pub use kinds::{element_size, kind_of};
 pub use listing::{listed_option, listed_stop, no_listing, number_list};
+pub use rows::{list, read_list, write_list};
 pub use text::is_utf8;
 pub use values::{element, read};
 pub use walk::{Found, find, step};

@@ -1,7 +1,7 @@
 //! What a value reads as, plain and strict, and the elements of a list (document 01, "Kinds of value").
 
 use super::{END, MOST_BYTES, PAD, big_endian, element_size, first_refusal, is_utf8, kind_of};
-use crate::library::{Element, Value};
+use sindovaleph::calls::{Element, Value};
 
 /// Whether a value's length is wrong for its kind.
 fn wrong_length(kind: u8, len: usize, strict: bool) -> bool {

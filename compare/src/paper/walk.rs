@@ -1,7 +1,7 @@
 //! The walk over an area of options (document 01, "Walking the area").
 
 use super::{END, MOST_BYTES, PAD, first_refusal};
-use crate::library::Step;
+use sindovaleph::calls::Step;
 
 const OUT: u8 = 1;
 const AT_END: u8 = 2;

@@ -1,15 +1,15 @@
 //! How values are written, and what a write answers and leaves (document 01, "Writing").
 
 use super::{END, MOST_BYTES, MOST_VALUE, PAD, element_size, first_refusal, is_utf8, kind_of};
-use crate::library::{Route, Written};
+use sindovaleph::calls::{Route, Written};
 
 /// The most bytes of one part.
-const MOST_PART: usize = 255;
+pub(super) const MOST_PART: usize = 255;
 
 const ROUTES_CODE: u8 = 121;
 
 /// A value in parts of so many bytes, the last one shorter. An empty value is no part.
-fn in_parts(size: usize, code: u8, value: &[u8]) -> Vec<u8> {
+pub(super) fn in_parts(size: usize, code: u8, value: &[u8]) -> Vec<u8> {
     let mut bytes = Vec::with_capacity(value.len() + 2 * value.len().div_ceil(size));
     for piece in value.chunks(size) {
         bytes.extend([code, piece.len() as u8]);
@@ -28,12 +28,12 @@ pub fn typed_bytes(kind: u8, code: u8, value: &[u8]) -> Vec<u8> {
 }
 
 /// The refusal of every write by its room and its place: 2, then 4.
-fn room_refusal(room: &[u8], place: usize) -> u8 {
+pub(super) fn room_refusal(room: &[u8], place: usize) -> u8 {
     first_refusal(&[(room.len() > MOST_BYTES, 2), (place > room.len(), 4)])
 }
 
 /// Puts bytes at a place, unless a refusal stands or they don't fit.
-fn put(room: &mut [u8], place: usize, refused: u8, bytes: &[u8]) -> Written {
+pub(super) fn put(room: &mut [u8], place: usize, refused: u8, bytes: &[u8]) -> Written {
     if refused > 0 {
         return Written { refused, place };
     }

@@ -28,8 +28,10 @@ fn from_every_place(bench: &mut Bench, area: &[u8]) {
     bench.walk(area, DhcpOptionIterator::new(area));
     for place in 0..=area.len() + 1 {
         bench.call_at(area, place, &JOIN_SIZES);
+        bench.lists(area, place);
     }
     bench.call_at(area, usize::MAX, &[]);
+    bench.lists(area, usize::MAX);
     bench.listing(&[&made::header(), area].concat());
 }
 

@@ -2,10 +2,10 @@
 
 use super::made;
 use crate::cases::Bench;
-use crate::library::Route;
 use crate::paper::MOST_BYTES;
 use crate::typed::Typed;
 use dhcproto::v4::borrowed::DhcpOptionIterator;
+use sindovaleph::calls::Route;
 
 /// Lengths at the limit, below it and above it.
 const LENGTHS: [usize; 4] = [MOST_BYTES - 1, MOST_BYTES, MOST_BYTES + 1, MOST_BYTES + 300];
@@ -36,6 +36,18 @@ fn messages_and_areas(bench: &mut Bench) {
     bench.walk(&ends, DhcpOptionIterator::new(&ends));
 }
 
+/// Areas listed in rows: with one long option, with as many options as can be, and with none.
+fn rows(bench: &mut Bench) {
+    for len in LENGTHS {
+        let many = [43, 0, 80, 0].repeat(len / 4 + 1);
+        for area in [joined_area(len), many[..len].to_vec(), vec![0; len]] {
+            for place in [0, 1, 257, len - 1, len, len + 1] {
+                bench.lists(&area, place);
+            }
+        }
+    }
+}
+
 /// Messages around the most bytes that are listed: with the longest of texts, and with one long value.
 fn listings(bench: &mut Bench) {
     for len in 4_090..=4_100 {
@@ -55,6 +67,9 @@ fn values(bench: &mut Bench) {
                 bench.read_value(code, &value);
             }
         }
+    }
+    for len in LENGTHS {
+        made::contents(len).iter().for_each(|text| bench.utf8(text));
     }
 }
 
@@ -96,6 +111,7 @@ fn rooms(bench: &mut Bench) {
 /// All of them.
 pub fn sweep(bench: &mut Bench) {
     messages_and_areas(bench);
+    rows(bench);
     listings(bench);
     values(bench);
     long_writes(bench);

@@ -114,9 +114,10 @@ fn damage(random: &mut Random, message: &mut Vec<u8>) {
     }
 }
 
-/// So many random messages, half of them damaged, and with each a random write.
+/// So many random messages, half of them damaged, and with each a random write of one option and of rows of them.
 pub fn random(bench: &mut Bench, count: u64, seed: u64) {
     let mut random = Random::new(seed);
+    let mut random_rows = Random::new(!seed);
     let mut message = Vec::new();
     for number in 0..count {
         if number % 1_000 == 0 {
@@ -130,5 +131,6 @@ pub fn random(bench: &mut Bench, count: u64, seed: u64) {
         let places = [random.below(message.len() + 2), random.below(80), random.below(12)];
         bench.message(&message, &places);
         written::one(&mut random, bench);
+        written::rows(&mut random_rows, bench);
     }
 }

@@ -6,6 +6,7 @@ mod limits;
 mod made;
 mod messages;
 mod routes;
+mod rows;
 mod texts;
 mod values;
 mod writes;
@@ -18,13 +19,14 @@ type Sweep = fn(&mut Bench);
 
 /// Everything that is gone over whole.
 pub fn whole(bench: &mut Bench) {
-    let sweeps: [(&str, Sweep); 7] = [
+    let sweeps: [(&str, Sweep); 8] = [
         ("short areas", areas::sweep),
         ("headers", headers::sweep),
         ("texts", texts::sweep),
         ("typed reading", values::sweep),
         ("writing", writes::sweep),
         ("routes", routes::sweep),
+        ("rows", rows::sweep),
         ("limits", limits::sweep),
     ];
     for (work, sweep) in sweeps {

@@ -2,7 +2,7 @@
 
 use super::made;
 use crate::cases::Bench;
-use crate::library::Route;
+use sindovaleph::calls::Route;
 
 /// So many routes of the same width.
 fn table(count: usize, width: u8) -> Vec<Route> {

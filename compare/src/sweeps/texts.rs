@@ -15,11 +15,20 @@ const BOUNDARIES: [u8; 25] = [
 /// How much ASCII is put before a text, so that it begins at every place of a block.
 const MOST_BEFORE: usize = 33;
 
+/// How much ASCII stands around a piece so that it falls at every place of two blocks of 128.
+const AROUND: std::ops::RangeInclusive<usize> = 90..=290;
+
+/// A text, read and looked at alone.
+fn text(bench: &mut Bench, text: &[u8]) {
+    bench.read_value(TEXT, text);
+    bench.utf8(text);
+}
+
 fn one_and_two_bytes(bench: &mut Bench) {
     for first in 0..=255 {
-        bench.read_value(TEXT, &[first]);
+        text(bench, &[first]);
         for second in 0..=255 {
-            bench.read_value(TEXT, &[first, second]);
+            text(bench, &[first, second]);
         }
     }
 }
@@ -28,39 +37,51 @@ fn three_and_four_bytes(bench: &mut Bench) {
     for first in BOUNDARIES {
         for second in BOUNDARIES {
             for third in BOUNDARIES {
-                bench.read_value(TEXT, &[first, second, third]);
+                text(bench, &[first, second, third]);
                 for fourth in BOUNDARIES {
-                    bench.read_value(TEXT, &[first, second, third, fourth]);
+                    text(bench, &[first, second, third, fourth]);
                 }
             }
         }
     }
 }
 
-/// Characters of each width, their cuts and wrong ones, behind and before ASCII.
+/// Characters of each width, their cuts and wrong ones.
+const PIECES: [&[u8]; 14] = [
+    &[0xC3, 0xA9],
+    &[0xE2, 0x82, 0xAC],
+    &[0xF0, 0x9F, 0x98, 0x80],
+    &[0xF4, 0x8F, 0xBF, 0xBF],
+    &[0xEF, 0xBF, 0xBF],
+    &[0xC3],
+    &[0xE2, 0x82],
+    &[0xF0, 0x9F, 0x98],
+    &[0x80],
+    &[0xC0, 0x80],
+    &[0xED, 0xA0, 0x80],
+    &[0xE0, 0x9F, 0xBF],
+    &[0xF0, 0x8F, 0xBF, 0xBF],
+    &[0xF4, 0x90, 0x80, 0x80],
+];
+
+/// A piece behind and before so much ASCII.
+fn between(before: usize, piece: &[u8], behind: usize) -> Vec<u8> {
+    [&vec![b'a'; before], piece, &vec![b'z'; behind]].concat()
+}
+
+/// Pieces behind and before ASCII.
 fn between_ascii(bench: &mut Bench) {
-    let pieces: [&[u8]; 14] = [
-        &[0xC3, 0xA9],
-        &[0xE2, 0x82, 0xAC],
-        &[0xF0, 0x9F, 0x98, 0x80],
-        &[0xF4, 0x8F, 0xBF, 0xBF],
-        &[0xEF, 0xBF, 0xBF],
-        &[0xC3],
-        &[0xE2, 0x82],
-        &[0xF0, 0x9F, 0x98],
-        &[0x80],
-        &[0xC0, 0x80],
-        &[0xED, 0xA0, 0x80],
-        &[0xE0, 0x9F, 0xBF],
-        &[0xF0, 0x8F, 0xBF, 0xBF],
-        &[0xF4, 0x90, 0x80, 0x80],
-    ];
-    for piece in pieces {
+    for piece in PIECES {
         for before in 0..=MOST_BEFORE {
             for behind in [0, 1, 2, 3, 7, 8, 15, 16, 17, 40] {
-                let text = [&vec![b'a'; before], piece, &vec![b'z'; behind]].concat();
-                bench.read_value(TEXT, &text);
-                bench.write_typed(TEXT, &Typed::Text(&text));
+                let bytes = between(before, piece, behind);
+                text(bench, &bytes);
+                bench.write_typed(TEXT, &Typed::Text(&bytes));
+            }
+        }
+        for before in AROUND {
+            for behind in [0, 1, 2, 3, 60, 128, 200] {
+                text(bench, &between(before, piece, behind));
             }
         }
     }

@@ -1,4 +1,4 @@
-//! Typed reading: every code, every length that matters.
+//! Kinds and typed reading: every code, every length that matters.
 
 use super::made;
 use crate::cases::Bench;
@@ -6,6 +6,7 @@ use crate::cases::Bench;
 /// All of them.
 pub fn sweep(bench: &mut Bench) {
     for code in 0..=255 {
+        bench.kind(code);
         for byte in 0..=255 {
             bench.read_value(code, &[byte]);
             bench.read_value(code, &[byte, !byte, byte, 7]);

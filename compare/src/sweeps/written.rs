@@ -1,10 +1,10 @@
 //! Random writes.
 
 use crate::cases::Bench;
-use crate::library::Route;
 use crate::paper::kind_of;
 use crate::random::Random;
 use crate::typed::Typed;
+use sindovaleph::calls::{Route, WriteRow};
 
 /// A length of a list: mostly short, now and then around the most bytes of a value.
 fn length(random: &mut Random, most: usize) -> usize {
@@ -50,6 +50,23 @@ fn routes(random: &mut Random, bench: &mut Bench) {
     };
     let table: Vec<Route> = (0..length(random, 500)).map(|_| route(random)).collect();
     bench.write_routes(&table);
+}
+
+/// Rows of options, most of them right.
+pub fn rows(random: &mut Random, bench: &mut Bench) {
+    let most = length(random, 1_500) + 40;
+    let values = bytes(random, most);
+    let row = |random: &mut Random| {
+        let start = random.below(values.len());
+        let len = random.below(values.len() - start + 1).min(length(random, 900));
+        match random.below(40) {
+            0 => WriteRow { code: random.one_of(&[0, 255, 256, usize::MAX]), start, len },
+            1 => WriteRow { code: 12, start, len: values.len() - start + random.below(2) },
+            _ => WriteRow { code: 1 + random.below(254), start, len },
+        }
+    };
+    let table: Vec<WriteRow> = (0..random.below(20)).map(|_| row(random)).collect();
+    bench.write_list(&table, &values);
 }
 
 /// One random value to one random code, mostly of its kind.

@@ -1,24 +1,28 @@
 //! The header and the places of what the crate shows of a message.
 
 use super::caught;
-use crate::library::{Fields, Span};
 use dhcproto::v4::borrowed::Message;
+use sindovaleph::calls::Fields;
 
-/// The numbers of the header.
+/// All fields of the header. The crate has no word for an address past the end, nor for another magic.
 pub fn fields(message: &Message<'_>) -> Fields {
     Fields {
         refused: 0,
-        op: u32::from(u8::from(message.opcode())),
-        htype: u32::from(u8::from(message.htype())),
-        hlen: u32::from(message.hlen()),
-        hops: u32::from(message.hops()),
+        op: message.opcode().into(),
+        htype: message.htype().into(),
+        hlen: message.hlen(),
+        hops: message.hops(),
         xid: message.xid(),
-        secs: u32::from(message.secs()),
-        flags: u32::from(u16::from(message.flags())),
+        secs: message.secs(),
+        flags: message.flags().into(),
         ciaddr: message.ciaddr().into(),
         yiaddr: message.yiaddr().into(),
         siaddr: message.siaddr().into(),
         giaddr: message.giaddr().into(),
+        chaddr_refused: 0,
+        sname: message.sname().len() as u16,
+        file: message.fname().len() as u16,
+        wrong_magic: false,
     }
 }
 
@@ -28,21 +32,7 @@ pub fn place_of(bytes: &[u8], part: &[u8]) -> Option<usize> {
     (start + part.len() <= bytes.len()).then_some(start)
 }
 
-fn span(bytes: &[u8], part: &[u8]) -> Option<Span> {
-    Some(Span { refused: 0, start: place_of(bytes, part)?, len: part.len() })
-}
-
 /// The address, or nothing where the crate panics.
-pub fn chaddr(bytes: &[u8], message: &Message<'_>) -> Option<Span> {
-    span(bytes, caught(|| message.chaddr())?)
-}
-
-/// The server's name.
-pub fn sname(bytes: &[u8], message: &Message<'_>) -> Option<Span> {
-    span(bytes, message.sname())
-}
-
-/// The boot file's name.
-pub fn file(bytes: &[u8], message: &Message<'_>) -> Option<Span> {
-    span(bytes, message.fname())
+pub fn chaddr<'a>(message: &Message<'a>) -> Option<&'a [u8]> {
+    caught(|| message.chaddr())
 }

@@ -6,7 +6,7 @@ mod quiet;
 mod reading;
 mod writing;
 
-pub use messages::{chaddr, fields, file, place_of, sname};
+pub use messages::{chaddr, fields, place_of};
 pub use quiet::caught;
 pub use reading::{Content, Reading, content_of, read};
-pub use writing::{write_bytes, write_routes, write_typed};
+pub use writing::{routes, write_bytes, write_routes, write_typed};

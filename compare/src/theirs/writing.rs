@@ -1,10 +1,10 @@
 //! The crate's writing, into a fresh buffer. Nothing is answered where the crate has no way to say it.
 
 use super::options::*;
-use crate::library::Route;
 use crate::typed::Typed;
 use dhcproto::v4::{DhcpOption, MessageType, NodeType, OptionCode, encode_long_opt_bytes};
 use dhcproto::{Encodable, Encoder};
+use sindovaleph::calls::Route;
 use std::net::Ipv4Addr;
 
 /// The option that holds this typed value under this code.
@@ -45,12 +45,17 @@ pub fn write_bytes(code: u8, value: &[u8]) -> Option<Vec<u8>> {
     Some(written)
 }
 
-/// A table of routes. The crate's type of a destination is built from its text.
-pub fn write_routes(routes: &[Route]) -> Option<Vec<u8>> {
+/// The option of a table of routes. The crate's type of a destination is built from its text.
+pub fn routes(routes: &[Route]) -> Option<DhcpOption> {
     let mut table = Vec::with_capacity(routes.len());
     for route in routes {
         let destination = format!("{}/{}", Ipv4Addr::from(route.destination), route.width);
         table.push((destination.parse().ok()?, route.gateway.into()));
     }
-    DhcpOption::ClasslessStaticRoute(table).to_vec().ok()
+    Some(DhcpOption::ClasslessStaticRoute(table))
+}
+
+/// A table of routes.
+pub fn write_routes(table: &[Route]) -> Option<Vec<u8>> {
+    routes(table)?.to_vec().ok()
 }

@@ -1,0 +1,93 @@
+//! How the cost grows: areas from small to the largest, full of one thing each.
+
+use super::case::{Case, Side, Sink};
+use super::inputs::{LENGTHS, Shape, area_in_parts, usual_area};
+use super::walk::{by_crate, by_step};
+use crate::paper::MOST_BYTES;
+use dhcproto::v4::borrowed::DhcpOptionIterator;
+use sindovaleph::calls::{self, Row};
+use std::hint::black_box;
+
+/// The two cases that all others are held against: the area of the twelve options.
+const BY_STEP: &str = "12 options, 85 bytes, by step";
+const BY_LIST: &str = "12 options, 85 bytes, by list";
+
+/// The most that a byte of the largest area may cost, against a byte of the twelve options.
+const MOST_GROWTH: f64 = 3.0;
+
+/// Options of so many parts of 255 bytes.
+const PARTS: [usize; 5] = [1, 2, 4, 8, 16];
+
+struct Steps {
+    area: Vec<u8>,
+    join: Vec<u8>,
+}
+
+impl Side for Steps {
+    fn run(&mut self, sink: &mut impl Sink) {
+        by_step(black_box(&self.area), &mut self.join, sink);
+    }
+}
+
+struct CrateSteps(Vec<u8>);
+
+impl Side for CrateSteps {
+    fn run(&mut self, sink: &mut impl Sink) {
+        by_crate(DhcpOptionIterator::new(black_box(&self.0)), sink);
+    }
+}
+
+/// Rows read, nothing joined.
+struct List {
+    area: Vec<u8>,
+    rows: Vec<Row>,
+}
+
+impl Side for List {
+    fn run(&mut self, sink: &mut impl Sink) {
+        let listed = calls::list(black_box(&self.area), 0, &mut self.rows);
+        for row in &self.rows[..listed.rows] {
+            sink.number(row.code as u64);
+            sink.number(row.len as u64);
+        }
+    }
+}
+
+struct CrateList(Vec<u8>);
+
+impl Side for CrateList {
+    fn run(&mut self, sink: &mut impl Sink) {
+        for option in DhcpOptionIterator::new(black_box(&self.0)) {
+            sink.number(u8::from(option.code()));
+            sink.number(option.len() as u64);
+        }
+    }
+}
+
+fn by_steps(name: impl Into<String>, area: &[u8]) -> Case {
+    let steps = Steps { area: area.to_vec(), join: vec![0; MOST_BYTES] };
+    Case::new(name, area.len(), steps, CrateSteps(area.to_vec())).grown_from(BY_STEP)
+}
+
+fn by_list(name: impl Into<String>, area: &[u8]) -> Case {
+    let rows = vec![Row::default(); area.len() / 2 + 1];
+    Case::new(name, area.len(), List { area: area.to_vec(), rows }, CrateList(area.to_vec())).grown_from(BY_LIST)
+}
+
+/// A shape at a length, by step and by list.
+fn grown(shape: Shape, len: usize) -> [Case; 2] {
+    let (name, area) = (format!("{}, {len} bytes", shape.name()), shape.area(len));
+    let cases = [by_steps(format!("{name}, by step"), &area), by_list(format!("{name}, by list"), &area)];
+    if len == MOST_BYTES { cases.map(|case| case.aims_at(MOST_GROWTH)) } else { cases }
+}
+
+/// All of them.
+pub fn cases() -> Vec<Case> {
+    let mut cases = vec![by_steps(BY_STEP, &usual_area()), by_list(BY_LIST, &usual_area())];
+    cases.extend(Shape::ALL.into_iter().flat_map(|shape| LENGTHS.into_iter().flat_map(move |len| grown(shape, len))));
+    cases.extend(PARTS.map(|count| {
+        let parts = if count == 1 { "part" } else { "parts" };
+        by_steps(format!("{count} {parts} of 255, by step"), &area_in_parts(count))
+    }));
+    cases
+}

@@ -1,0 +1,115 @@
+//! The page docs/SPEED.md.
+
+use super::machine::Machine;
+use super::table::{self, Row};
+
+/// What the page shows.
+pub struct Page<'a> {
+    pub machine: &'a Machine,
+    pub plain: &'a [Row],
+    pub lto: &'a [Row],
+    pub growth: &'a [Row],
+    /// What could not be measured, a sentence each.
+    pub missing: &'a [String],
+}
+
+/// How the page begins.
+const BEGIN: &str = "\
+# How fast the library is, beside the crate
+
+`compare/bench` measures this page and writes it. The library (the calls of `rust/src/calls.rs`) and the crate dhcproto 0.15.0 run
+in one process on the same inputs; their answers are compared first. The sides take turns, 101 rounds each: `ns` is the time of one
+repetition in the best round, `median` that of the round in the middle. The ratio is the library's best by the crate's, so below 1
+the library is faster. Instructions are counted by another program that runs each side alone.
+";
+
+/// The state of the memory that is used.
+const BUFFERS: &str = "\
+Memory: what is lent to the library (the join, the rows, the room) is lent again and again, so it is warm; so are the inputs. The
+crate's vector, into which it writes, is cleared and has its capacity already; where the crate joins parts or reads a list or a text it
+allocates, as it always does. Rows to be written and the crate's routes are made before.
+
+Inputs: the message of twelve options has 325 bytes, 85 of them its area: 53 54 51 58 59 1 3 6 15 28 12 42 and End, with usual values.
+The option that is joined has parts of 255 bytes and a last one of 180; with four parts its message has 1,200 bytes. Before a walk the
+library's side looks at the length and at the magic as the crate's `new` and `opts` do. Texts are ASCII, or characters of one, two,
+three and four bytes in turn; Rust's own `from_utf8` is held against the library there, and a static table behind a call for the
+kinds. \"The safe crate\" is what a service calls: `Message::new`, `opts` and `read` of the crate `sindovaleph`, over those calls.
+";
+
+/// What stands before the second table.
+const LTO: &str = "\
+## The crate with fat LTO
+
+The same with another build of the same program, in which the crate's functions can be inlined into it (`lto = \"fat\"`, the profile
+`lto` of `compare/Cargo.toml`). The library's archives are machine code and stay as they are. There are no targets here.
+";
+
+/// What stands before the table of growth.
+const GROWTH: &str = "\
+## How the cost grows
+
+Areas of 64 to 65,535 bytes, each full of one thing, walked from the begin to the first stop: by a call of `step` for each option, or by
+one call of `list` with rows that are then read. The numbers are the library's, a byte of the area; the ratio is that cost against the
+cost a byte of the area of the twelve options, walked the same way. \"Empty options\" are of two codes in turn, \"empty parts\" are one
+option of very many parts, \"cut\" is the same with a last part that is not whole, and \"parts of 255\" are one option that `step` joins.
+The crate stands beside it for who wants to know; there is no target between them here.
+";
+
+/// How to read it.
+const READING: &str = "\
+## How to read this
+
+Look at the ratio and at the target beside it: a case is as fast as was aimed at where the ratio is not above the target. Targets are
+for times. Times of the same run can be held against each other; those of two runs, or of two machines, hardly, and what takes less
+than 5 ns depends on where the linker put it. Instructions hardly change from run to run, so they tell whether a change of the code
+made a difference. A ratio of instructions is no ratio of times: instructions that wait for each other or for memory take longer than
+others. What copies and allocates memory for the crate is the C library's, which chooses it by the processor. In the last table the
+numbers of a shape should stay about the same as the area gets longer: then the work grows as the area does, and no message costs more
+than its length.
+";
+
+impl Page<'_> {
+    /// The day, the machine and the compilers.
+    fn made_on(&self) -> String {
+        let Machine { kind, processor, cores, date, rustc, rattle } = self.machine;
+        format!(
+            "Measured on {date}.\n\n- The machine: {processor} ({kind}), {cores} cores.\n\
+             - The crate, and the program that measures: {rustc}.\n\
+             - Their build: release, one codegen unit, no LTO.\n- The library: {rattle}.\n"
+        )
+    }
+
+    /// The whole text.
+    pub fn text(&self) -> String {
+        let missing: String = self.missing.iter().map(|sentence| format!("\n**{sentence}**\n")).collect();
+        let plain = table::readable(self.plain);
+        let growth = table::growth(self.growth);
+        let lto = if self.lto.is_empty() { String::new() } else { format!("{LTO}\n{}\n", table::readable(self.lto)) };
+        let made_on = self.made_on();
+        format!(
+            "{BEGIN}\n{made_on}{missing}\n{BUFFERS}\n## The library and the crate\n\n{plain}\n{lto}{GROWTH}\n{growth}\n{READING}"
+        )
+    }
+}
+
+#[cfg(test)]
+mod tests {
+    use super::*;
+
+    #[test]
+    fn a_page_says_all_that_it_is_made_of() {
+        let word = |word: &str| word.to_string();
+        let (kind, processor, date) = (word("x86_64"), word("Some Xeon"), word("2026-11-15"));
+        let machine = Machine { kind, processor, cores: 4, date, rustc: word("rustc 9"), rattle: word("kit 1") };
+        let missing = [word("Nothing was counted.")];
+        let page = Page { machine: &machine, plain: &[], lto: &[], growth: &[], missing: &missing };
+        let text = page.text();
+        for part in
+            ["2026-11-15", "Some Xeon (x86_64), 4 cores", "rustc 9", "kit 1", "**Nothing was counted.**", READING]
+        {
+            assert!(text.contains(part), "{part}");
+        }
+        assert!(!text.contains("## The crate with fat LTO"));
+        assert!(text.lines().all(|line| line.starts_with('|') || line.len() <= 140));
+    }
+}
