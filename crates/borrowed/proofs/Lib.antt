@@ -3,5 +3,3 @@ pub mod Shown
 pub mod Answers
 pub mod Joining
 pub mod Unique
-pub mod Fields
-pub mod UniqueHeader

@@ -1,7 +1,5 @@
-// A message that is lent: its fixed header (`header`), and the walk over its area of options as the crate's `DhcpOptionIterator::next` has
-// it, by value: one call from a place.
+// The walk over an area of options that is lent, as the crate's `DhcpOptionIterator::next` has it, by value: one call from a place.
 pub mod answer;
-pub mod header;
 mod parts;
 
 ghost use Prim.Native.Nat.{_≤_};

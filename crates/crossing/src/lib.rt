@@ -4,7 +4,7 @@ pub mod answers;
 
 ghost use mathlib.Core.Path.{_≡_};
 ghost use Rattle.encoder.specs.Written as encoder;
-ghost use Rattle.borrowed.specs.Header.{says as said};
+ghost use Rattle.header.specs.Header.{says as said};
 ghost use Rattle.borrowed.specs.Walked.{stopOf};
 ghost use Rattle.values.specs.Reading.{elementSays};
 ghost use Rattle.crossing.specs.Carried.{fieldOf, stopNumber, elementOf, writtenOf, stepHere, readingHere, heldHere};
@@ -15,8 +15,8 @@ use answers::Value;
 use answers::Written;
 use borrowed::answer::Step as Call;
 use borrowed::answer::Stop;
-use borrowed::header::Number;
 use encoder::Written as Write;
+use header::Number;
 use values::answer::Element as Entry;
 use values::answer::Reading;
 use values::answer::Value as Held;

@@ -30,7 +30,7 @@ fn tell_sizes() {
     say_size(b"value of 4080 bytes", &room, most);
     let more = options::write_bytes(&mut room, 0, 43, &value);
     say_size(b"value of 4081 bytes", &room, more);
-    let list = typed::lists::write_addresses(&mut room, 0, 6, &addresses);
+    let list = lists::write_addresses(&mut room, 0, 6, &addresses);
     say_size(b"127 addresses", &room, list);
     let bytes = options::write_bytes(&mut room, 0, 6, &value[0..508]);
     say_size(b"508 bytes", &room, bytes);
@@ -74,17 +74,17 @@ fn tell_others() {
 
 fn tell_lists() {
     let mut room = [0u8; 64];
-    let addresses = typed::lists::write_addresses(&mut room, 0, 6, &[GATEWAY, TEN]);
+    let addresses = lists::write_addresses(&mut room, 0, 6, &[GATEWAY, TEN]);
     say_bytes(b"addresses", &room, addresses);
-    let pairs = typed::lists::write_pairs(&mut room, 0, 33, &[TEN, GATEWAY]);
+    let pairs = lists::write_pairs(&mut room, 0, 33, &[TEN, GATEWAY]);
     say_bytes(b"pairs", &room, pairs);
-    let odd = typed::lists::write_pairs(&mut room, 0, 33, &[TEN, GATEWAY, TEN]);
+    let odd = lists::write_pairs(&mut room, 0, 33, &[TEN, GATEWAY, TEN]);
     say_bytes(b"three addresses as pairs", &room, odd);
-    let sizes = typed::lists::write_u16s(&mut room, 0, 25, &[68, 1500]);
+    let sizes = lists::write_u16s(&mut room, 0, 25, &[68, 1500]);
     say_bytes(b"u16s", &room, sizes);
-    let codes = typed::lists::write_codes(&mut room, 0, 55, &[1, 3, 6, 121]);
+    let codes = typed::write_codes(&mut room, 0, 55, &[1, 3, 6, 121]);
     say_bytes(b"codes", &room, codes);
-    let none = typed::lists::write_codes(&mut room, 0, 55, &[]);
+    let none = typed::write_codes(&mut room, 0, 55, &[]);
     say_bytes(b"no codes", &room, none);
 }
 

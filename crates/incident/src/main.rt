@@ -1,9 +1,9 @@
 // The message of the incident as the library reads it: 244 bytes whose hlen says 255, and the same with 39 bytes more.
 use borrowed::answer::Stop;
-use borrowed::header::Area;
-use borrowed::header::Header;
-use borrowed::header::Number;
-use borrowed::header::Part;
+use header::Area;
+use header::Header;
+use header::Number;
+use header::Part;
 use values::answer::Value;
 use whole::Whole;
 

@@ -17,10 +17,10 @@ use Rattle.rfc.specs.Header.{bytesOf, field, options}
 use Rattle.rfc.specs.Walk as walk
 use Rattle.rfc.proofs.Numbers.{given-no, short, not-short}
 use Rattle.rfc.proofs.Header.{message-read, field-given, given-field, chaddr-inside, area-inside}
-use Rattle.borrowed.specs.Header as said
+use Rattle.header.specs.Header as said
 use Rattle.borrowed.specs.Walked.{says, shown, partOf}
-use Rattle.borrowed.specs.declared.header.Number.{Number}
-use Rattle.borrowed.specs.declared.header.Number.the-variants as numbers
+use Rattle.header.specs.declared.Number.{Number}
+use Rattle.header.specs.declared.Number.the-variants as numbers
 use Rattle.borrowed.specs.declared.answer.Step.{Step}
 use Rattle.borrowed.specs.declared.answer.Step.the-variants as step
 use Rattle.borrowed.proofs.answer.Step.{the-type}

@@ -5,8 +5,8 @@ use mathlib.Core.List.{List, []}
 use lib.ListN.{length}
 use Rattle.rfc.specs.Numbers.{leastMessage}
 use Rattle.borrowed.specs.Walked.{stopOf}
-use Rattle.borrowed.specs.declared.header.Number.{Number}
-use Rattle.borrowed.specs.declared.header.Number.the-variants as numbers
+use Rattle.header.specs.declared.Number.{Number}
+use Rattle.header.specs.declared.Number.the-variants as numbers
 use Rattle.borrowed.specs.declared.answer.Step.{Step}
 use Rattle.borrowed.specs.declared.answer.Step.the-variants as step
 use Rattle.lines.specs.Listing.{mostListed, stopLine, refusedLine}

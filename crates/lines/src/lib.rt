@@ -14,11 +14,11 @@ ghost use Rattle.lines.specs.Adding.{addsAll};
 ghost use Rattle.lines.specs.Told.{Listed, numberIn, endingOf};
 use borrowed::answer::Step;
 use borrowed::answer::Stop;
-use borrowed::header::Area;
-use borrowed::header::Header;
-use borrowed::header::Number;
-use borrowed::header::Part;
 use encoder::Written;
+use header::Area;
+use header::Header;
+use header::Number;
+use header::Part;
 use limits::LEAST_MESSAGE;
 use limits::MOST_BYTES;
 

@@ -117,7 +117,7 @@ fn write_list(room: &mut [u8], code: u8, kind: u8, content: &[u8]) -> Written {
         ),
         kinds::PAIRS => write_pairs(room, code, borrowed::part(content, 2, count * 8), count * 2),
         kinds::U16S => write_u16s(room, code, borrowed::part(content, 2, count * 2), count),
-        _ => typed::lists::write_codes(room, PLACE, code, borrowed::part(content, 2, count)),
+        _ => typed::write_codes(room, PLACE, code, borrowed::part(content, 2, count)),
     }
 }
 
@@ -126,7 +126,7 @@ fn write_addresses(room: &mut [u8], code: u8, elements: &[u8], count: usize) -> 
     if count > 1024 {
         return Written::Refused(UNWRITTEN);
     }
-    typed::lists::write_addresses(room, PLACE, code, &numbers[0..count])
+    lists::write_addresses(room, PLACE, code, &numbers[0..count])
 }
 
 fn write_pairs(room: &mut [u8], code: u8, elements: &[u8], count: usize) -> Written {
@@ -134,7 +134,7 @@ fn write_pairs(room: &mut [u8], code: u8, elements: &[u8], count: usize) -> Writ
     if count > 1024 {
         return Written::Refused(UNWRITTEN);
     }
-    typed::lists::write_pairs(room, PLACE, code, &numbers[0..count])
+    lists::write_pairs(room, PLACE, code, &numbers[0..count])
 }
 
 fn write_u16s(room: &mut [u8], code: u8, elements: &[u8], count: usize) -> Written {
@@ -142,7 +142,7 @@ fn write_u16s(room: &mut [u8], code: u8, elements: &[u8], count: usize) -> Writt
     if count > 2048 {
         return Written::Refused(UNWRITTEN);
     }
-    typed::lists::write_u16s(room, PLACE, code, &numbers[0..count])
+    lists::write_u16s(room, PLACE, code, &numbers[0..count])
 }
 
 // As many numbers as a list that is written may have, from the first byte on.

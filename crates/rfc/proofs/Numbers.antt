@@ -55,6 +55,14 @@ refuser [] a n e = absurd (given-no a n e)
 refuser (check true k ∷ cs) a n e = let h : k ≡ n = cc in subst (λ (m : ℕ). Refuses (check true k ∷ cs) m) h (here refl)
 refuser (check false k ∷ cs) a n e = later refl (refuser cs a n e)
 
+-- some checks refuse by one number, and not where they are clear
+pub one-refuser : {cs : List Check} {j k : ℕ} → Refuses cs j → Refuses cs k → j ≡ k
+one-refuser {j = j} {k = k} r s =
+    let e : _≡_ {A = Answer ℕ} (refused j) (refused k) = sym (refuses (given 0) r) ∙ refuses (given 0) s in cc
+
+pub not-both : {cs : List Check} {k : ℕ} → Clear cs → Refuses cs k → ⊥
+not-both {k = k} c r = given-no {A = ℕ} 0 k (sym (clears (given 0) c) ∙ refuses (given 0) r)
+
 -- checks behind others
 pub refuses-front : {cs : List Check} {n : ℕ} (ds : List Check) → Refuses cs n → Refuses (cs ++ ds) n
 refuses-front ds (here e) = here e

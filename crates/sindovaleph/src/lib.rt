@@ -6,13 +6,13 @@ ghost use Rattle.rfc.specs.Header as rfc;
 ghost use Rattle.rfc.specs.Kinds.{kindOf};
 ghost use Rattle.rfc.specs.Text.{utf8};
 ghost use Rattle.rfc.specs.Writing.{writeBytes, close};
-ghost use Rattle.borrowed.specs.Header.{allOf};
+ghost use Rattle.header.specs.Header.{allOf};
 ghost use Rattle.crossing.specs.Carried.{fieldOf, Stepped, Wrote};
-use borrowed::header::Fields;
-use borrowed::header::Header;
 use crossing::answers::Field;
 use crossing::answers::Step;
 use crossing::answers::Written;
+use header::Fields;
+use header::Header;
 
 // All fields of the header.
 #[no_mangle]

@@ -164,10 +164,7 @@ pub extern "C" fn sindovaleph_write_addresses(
 ) -> Written
     ensures { λ r. ⌜ WroteValue 2 (numbers (now (addresses .entry))) code (now (room .entry)) (now (room .exit)) place r ⌝ }
 {
-    crossing::written_of(
-        typed::lists::write_addresses(room, place, code, addresses),
-        place,
-    )
+    crossing::written_of(lists::write_addresses(room, place, code, addresses), place)
 }
 
 // Pairs of addresses, one address behind the other.
@@ -180,10 +177,7 @@ pub extern "C" fn sindovaleph_write_pairs(
 ) -> Written
     ensures { λ r. ⌜ WroteValue 3 (numbers (now (addresses .entry))) code (now (room .entry)) (now (room .exit)) place r ⌝ }
 {
-    crossing::written_of(
-        typed::lists::write_pairs(room, place, code, addresses),
-        place,
-    )
+    crossing::written_of(lists::write_pairs(room, place, code, addresses), place)
 }
 
 // Numbers of two bytes.
@@ -196,7 +190,7 @@ pub extern "C" fn sindovaleph_write_u16s(
 ) -> Written
     ensures { λ r. ⌜ WroteValue 7 (numbers (now (u16s .entry))) code (now (room .entry)) (now (room .exit)) place r ⌝ }
 {
-    crossing::written_of(typed::lists::write_u16s(room, place, code, u16s), place)
+    crossing::written_of(lists::write_u16s(room, place, code, u16s), place)
 }
 
 // Codes of options.
@@ -209,7 +203,7 @@ pub extern "C" fn sindovaleph_write_codes(
 ) -> Written
     ensures { λ r. ⌜ WroteValue 11 (numbers (now (codes .entry))) code (now (room .entry)) (now (room .exit)) place r ⌝ }
 {
-    crossing::written_of(typed::lists::write_codes(room, place, code, codes), place)
+    crossing::written_of(typed::write_codes(room, place, code, codes), place)
 }
 
 // The lent table of classless routes.

@@ -1,7 +1,7 @@
 -- What the typed writers share: what the number of `refusal` tells, when bytes of a kind are written as a byte value, and from bytes of a
 -- kind to a value of it.
 -- Assumes nothing.
-use mathlib.Core.Path.{_≡_, sym, ap, _∙_, subst}
+use mathlib.Core.Path.{_≡_, refl, sym, ap, _∙_, subst}
 use Prim.Native.Nat.{ℕ, _≤_, _<_}
 use mathlib.Core.Bool.{false}
 use mathlib.Core.List.{List, [], _∷_}
@@ -14,7 +14,7 @@ use Rattle.rfc.specs.Kinds.{sizeOf}
 use Rattle.rfc.specs.Values.{Content, natural, notText}
 use Rattle.rfc.specs.Writing.{Write, encode, writeSlice, writeBytes}
 use Rattle.rfc.specs.Typed.{bytesIn, partSize, codeChecks, writeKind}
-use Rattle.rfc.proofs.Numbers.{Refuses, Clear}
+use Rattle.rfc.proofs.Numbers.{Refuses, Clear, one-refuser, not-both}
 use Rattle.rfc.proofs.Values.{Scalar}
 use Rattle.rfc.proofs.Readings.{no-text}
 use Rattle.rfc.proofs.Typed.{parts-bytes, single, encode-kind, encode-scalar, encode-flag, no-pairs}
@@ -33,6 +33,13 @@ decides-some (first p r) h = r
 pub decides-none : {checks : List Check} {k : ℕ} → Decides checks k → k ≤ 0 → Clear checks
 decides-none (none c) h = c
 decides-none (first p r) h = absurd (omega arith)
+
+-- checks give one number
+pub decides-one : {checks : List Check} {j k : ℕ} → Decides checks j → Decides checks k → j ≡ k
+decides-one (none c) (none d) = refl
+decides-one (none c) (first q s) = absurd (not-both c s)
+decides-one (first p r) (none d) = absurd (not-both d r)
+decides-one (first p r) (first q s) = one-refuser r s
 
 -- bytes of a kind
 module _ (kind code : ℕ) (v room : List ℕ) (place : ℕ) where

@@ -1,8 +1,11 @@
--- Any two answers that the contract of a writer allows are equal, and so are the rooms that it leaves.
+-- Any two answers that a contract of this crate allows are equal, and so are the rooms that a writer leaves.
 -- Assumes nothing.
 use denote.Ref.{now}
-use Rattle.facts.proofs.Unique.{UniqueLeft}
+use Rattle.facts.proofs.Unique.{Unique, UniqueLeft}
 use Rattle.encoder.proofs.Answers.{wrote-one}
+use Rattle.typed.proofs.Answers.{decides-one}
+use Rattle.typed.proofs.checks.refusal.Kinds as refusal-kinds
+use Rattle.typed.proofs.checks.refusal.Reads as refusal
 use Rattle.typed.proofs.write_address.Kinds as write-address-kinds
 use Rattle.typed.proofs.write_address.Reads as write-address
 use Rattle.typed.proofs.write_byte.Kinds as write-byte-kinds
@@ -25,14 +28,11 @@ use Rattle.typed.proofs.write_three_bytes.Kinds as write-three-bytes-ki
 use Rattle.typed.proofs.write_three_bytes.Reads as write-three-bytes
 use Rattle.typed.proofs.write_flag.Kinds as write-flag-kinds
 use Rattle.typed.proofs.write_flag.Reads as write-flag
-use Rattle.typed.proofs.lists.write_codes.Kinds as write-codes-kinds
-use Rattle.typed.proofs.lists.write_codes.Reads as write-codes
-use Rattle.typed.proofs.lists.write_addresses.Kinds as write-addresses-kinds
-use Rattle.typed.proofs.lists.write_addresses.Reads as write-addresses
-use Rattle.typed.proofs.lists.write_pairs.Kinds as write-pairs-kinds
-use Rattle.typed.proofs.lists.write_pairs.Reads as write-pairs
-use Rattle.typed.proofs.lists.write_u16s.Kinds as write-u16s-kinds
-use Rattle.typed.proofs.lists.write_u16s.Reads as write-u16s
+use Rattle.typed.proofs.write_codes.Kinds as write-codes-kinds
+use Rattle.typed.proofs.write_codes.Reads as write-codes
+
+refusal-unique : Unique 1 refusal-kinds.ps refusal-kinds.r refusal.Post
+refusal-unique κs a x y s t p q = decides-one p q
 
 write-address-unique : UniqueLeft 1 write-address-kinds.ps write-address-kinds.r write-address.Post (λ κs s. now (s .0))
 write-address-unique κs a x y s t p q = wrote-one p q
@@ -69,12 +69,3 @@ write-flag-unique κs a x y s t p q = wrote-one p q
 
 write-codes-unique : UniqueLeft 2 write-codes-kinds.ps write-codes-kinds.r write-codes.Post (λ κs s. now (s .0))
 write-codes-unique κs a x y s t p q = wrote-one p q
-
-write-addresses-unique : UniqueLeft 2 write-addresses-kinds.ps write-addresses-kinds.r write-addresses.Post (λ κs s. now (s .0))
-write-addresses-unique κs a x y s t p q = wrote-one p q
-
-write-pairs-unique : UniqueLeft 2 write-pairs-kinds.ps write-pairs-kinds.r write-pairs.Post (λ κs s. now (s .0))
-write-pairs-unique κs a x y s t p q = wrote-one p q
-
-write-u16s-unique : UniqueLeft 2 write-u16s-kinds.ps write-u16s-kinds.r write-u16s.Post (λ κs s. now (s .0))
-write-u16s-unique κs a x y s t p q = wrote-one p q

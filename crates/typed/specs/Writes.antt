@@ -1,14 +1,13 @@
 -- What the contracts of the typed writers say, over the definitions of `Rattle.rfc.specs.Typed`.
 -- Assumes nothing.
-use Prim.Native.Nat.{ℕ, _+_, _*_, _≤_, _<_}
+use Prim.Native.Nat.{ℕ, _<_}
 use mathlib.Core.Path.{_≡_}
 use mathlib.Core.Bool.{false}
 use mathlib.Core.List.{List}
-use lib.ListN.{length}
 use Rattle.rfc.specs.Numbers.{Check, mostPart}
 use Rattle.rfc.specs.Values.{Content, notText}
 use Rattle.rfc.specs.Writing.{encode}
-use Rattle.rfc.specs.Typed.{digitsOf, partSize, encodeKind, oddPairs, writeValue}
+use Rattle.rfc.specs.Typed.{encodeKind, oddPairs, writeValue}
 use Rattle.rfc.proofs.Numbers.{Refuses, Clear}
 use Rattle.encoder.specs.Written.{Wrote}
 use Rattle.encoder.specs.declared.Written.{Written}
@@ -18,26 +17,13 @@ abbrev pub Writes : ℕ → Content → ℕ → List ℕ → List ℕ → ℕ �
 Writes kind content code room room′ place r =
     Wrote (writeValue code (record { kind = kind; content = content }) room place) room room′ place r
 
--- Between the functions of the crate: the number that some checks give, or 0 where none refuses
+-- the number that some checks give, or 0 where none refuses
 pub data Decides : List Check → ℕ → Type 0 where
   none : {checks : List Check} → Clear checks → Decides checks 0
   first : {checks : List Check} {k : ℕ} → 0 < k → Refuses checks k → Decides checks k
 
--- bytes of a kind that need no check of their own, and whose parts are those of a byte value
+-- Between the functions of the crate: bytes of a kind that need no check of their own, and whose parts are those of a byte value
 pub record AsBytes (kind code : ℕ) (v : List ℕ) : Type 0 where
   pub paired : oddPairs kind v ≡ false
   pub text : notText kind v ≡ false
   pub alike : encodeKind kind code v ≡ encode mostPart code v
-
--- a kind of list that is cut at so many numbers, each of so many bytes; it is no text and no flag
-pub record CutAt (kind width most : ℕ) : Type 0 where
-  pub part-is : partSize kind ≡ width * most
-  pub some : 0 < width * most
-  pub least : width * most ≤ mostPart
-  pub other : (kind ≡ 10 → ⊥) × (kind ≡ 15 → ⊥)
-
--- numbers of so many bytes whose parts, so many numbers each, fit in a room at a place
-pub record Ready (most width code place : ℕ) (l room : List ℕ) : Type 0 where
-  pub some : 0 < width * most
-  pub least : width * most ≤ mostPart
-  pub fits : place + length (encode (width * most) code (digitsOf width l)) ≤ length room

@@ -6,7 +6,7 @@ use encoder::Written;
 use limits::MOST_BYTES;
 
 // The number of the first refusal by the room, the place or the code; 0 where there is none.
-pub(crate) fn refusal(room: &[u8], place: usize, code: u8, kind: u8) -> u8
+pub fn refusal(room: &[u8], place: usize, code: u8, kind: u8) -> u8
     ensures { λ r. ⌜ Decides (codeChecks kind code (now (room .entry)) place) r ⌝ }
 {
     if room.len() > MOST_BYTES {

@@ -1,12 +1,12 @@
 // A writer for each kind of value, as the plain arms of the crate's `DhcpOption::encode` have it. Each takes a code of its kind, a lent
-// room and a place. Here are the kinds that hold one thing; `lists` has those that hold many.
-mod checks;
-pub mod lists;
+// room and a place. Here are the kinds that hold one thing, and codes of options, which are cut as bytes are; the crate `lists` has the other
+// lists.
+pub mod checks;
 
 ghost use mathlib.Core.Path.{_≡_};
 ghost use mathlib.Core.Bool.{cond};
 ghost use mathlib.Core.List.{[], _∷_};
-ghost use Rattle.rfc.specs.Values.{raw, natural, integer, truth, nothing};
+ghost use Rattle.rfc.specs.Values.{raw, natural, integer, truth, numbers, nothing};
 ghost use Rattle.values.specs.Reading.{byteOf};
 ghost use Rattle.typed.specs.Writes.{Writes};
 use encoder::Written;
@@ -117,6 +117,13 @@ pub fn write_flag(room: &mut [u8], place: usize, code: u8) -> Written
         return Written::Refused(number);
     }
     encoder::write_slice(room, place, &[code, 0])
+}
+
+// Writes codes of options.
+pub fn write_codes(room: &mut [u8], place: usize, code: u8, codes: &[u8]) -> Written
+    ensures { λ r. ⌜ Writes 11 (numbers (now (codes .entry))) code (now (room .entry)) (now (room .exit)) place r ⌝ }
+{
+    checks::write_as(room, place, code, kinds::CODES, codes)
 }
 
 // The byte of yes, and of no.

@@ -1,8 +1,8 @@
 -- `field_of` meets its contract, case by case.
 -- Assumes nothing.
 use mathlib.Core.Path.{sym, ap}
-use Rattle.borrowed.specs.Header.{says}
-use Rattle.borrowed.specs.declared.header.Number as number
+use Rattle.header.specs.Header.{says}
+use Rattle.header.specs.declared.Number as number
 use Rattle.crossing.specs.Carried.{fieldOf}
 use borrow.Author.Needs.{needs}
 use Rattle.crossing.proofs.field_of.Statement.{statement}

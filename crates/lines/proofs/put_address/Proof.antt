@@ -3,7 +3,7 @@
 use mathlib.Core.Path.{sym, ap, _∙_}
 use denote.Ref.{now}
 use Rattle.rfc.specs.Header as header
-use Rattle.borrowed.specs.Header.{saysPart}
+use Rattle.header.specs.Header.{saysPart}
 use Rattle.lines.specs.Listing.{spaced}
 use Rattle.lines.specs.Adding.{addsAll}
 use Rattle.lines.proofs.Adding.{both}

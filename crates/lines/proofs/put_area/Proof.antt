@@ -6,7 +6,7 @@ use Prim.Native.Nat.{ℕ}
 use lib.ListN.{length}
 use denote.Ref.{now}
 use Rattle.rfc.specs.Header as header
-use Rattle.borrowed.specs.Header.{saysArea}
+use Rattle.header.specs.Header.{saysArea}
 use Rattle.lines.specs.Listing.{mostListed, linesIn}
 use Rattle.lines.specs.Adding.{addsAll}
 use Rattle.lines.proofs.Telling.{area-refused, area-wrong, area-options, area-part}
