@@ -36,9 +36,9 @@ MISFITS = (
 
 # A statement about the changed code does not hold, or nothing proves it.
 FACTS = (
-    # What the proof gives and what the code needs are two types, or two numbers.
-    re.compile(r"the two types (?:first )?differ"),
-    re.compile(r"as far as they go, the two types are"),
+    # What the proof gives and what the code needs are two types, or two values.
+    re.compile(r"the two (?:types|values) (?:first )?differ"),
+    re.compile(r"as far as they go, the two (?:types|values) are"),
     # The same, told at once: the two types are written out.
     re.compile(r"error: `[^`]*`: expected type `(?!tie\.)"),
     # The same, of a number that a constructor fixes.
