@@ -25,7 +25,7 @@ MISFITS = (
     # A need, an invariant or a record of the function's `Tie` that is not there any more.
     re.compile(r"has no `[^`]*` that can be named from here"),
     # A call or a branch that the record of a place does not have.
-    re.compile(r"record `[^`]*` has no field `"),
+    re.compile(r"record `[^`]*`\s+has no field `"),
     # A loop has fewer variables than the proof's invariant or measure takes.
     re.compile(r"this pattern needs a function \(or path\) type to bind"),
     # The answers to the needs are given in another order, or one is missing or too many.
