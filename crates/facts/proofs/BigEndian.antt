@@ -1,13 +1,14 @@
 -- Numbers of any width: what is written reads back, and what is read writes back. Proved once, for every width.
 -- Assumes nothing.
-use mathlib.Core.Path.{_≡_, refl, _∙_, ap, sym, subst}
+use mathlib.Core.Path.{_≡_, refl, _∙_, ap}
 use mathlib.Core.List.{List, [], _∷_}
 use Prim.Native.Nat.{ℕ, zero, suc, _+_, _*_, _/_, _%_, _^_, _≤_, _<_}
-use native.Mathlib.Nat.{pow-succ', add-mul, mul-assoc, add-assoc, mod-eq-of-lt}
+use native.Mathlib.Nat.{pow-succ', add-mul, mul-assoc, mod-eq-of-lt}
 use native.Mathlib.Omega.{arith}
 use lib.Arith.{mod-mul, digits-lt, digits-div, digits-mod}
 use lib.Dec.{lit<}
 use lib.ListN.{length, getD, take}
+use lib.Seq.{take-take}
 use Rattle.facts.specs.BigEndian.{number, numberFrom, digits}
 
 -- every element is a byte, as what owning a `&[u8]` tells
@@ -28,19 +29,14 @@ number-from : (h : ℕ) (xs : List ℕ) → numberFrom h xs ≡ h * 256 ^ length
 number-from h [] = omega arith
 number-from h (x ∷ xs) =
     let c = 256 ^ length xs in
-    number-from (h * 256 + x) xs
-    ∙ ap (λ (k : ℕ). k + number xs) (add-mul (h * 256) x c ∙ ap (λ (k : ℕ). k + x * c) (mul-assoc h 256 c))
-    ∙ add-assoc (h * (256 * c)) (x * c) (number xs)
-    ∙ ap (λ (k : ℕ). k + (x * c + number xs)) (ap (λ (k : ℕ). h * k) (sym (pow-succ' 256 (length xs))))
-    ∙ ap (λ (k : ℕ). h * 256 ^ suc (length xs) + k) (sym (number-from (0 * 256 + x) xs ∙ ap (λ (k : ℕ). k * c + number xs) (omega arith)))
+    let up = ap (λ (k : ℕ). h * k) (pow-succ' 256 (length xs)) in
+    omega (arith, number-from (h * 256 + x) xs, number-from (0 * 256 + x) xs, add-mul (h * 256) x c, mul-assoc h 256 c)
 
 -- a number of w bytes is below 256 ^ w
 pub number-below : (xs : List ℕ) → Bytes xs → number xs < 256 ^ length xs
 number-below [] b = lit< tt
 number-below (x ∷ xs) b =
-    let c = 256 ^ length xs in
-    subst (λ (k : ℕ). numberFrom (0 + x) xs < k) (sym (pow-succ' 256 (length xs)))
-    (subst (λ (k : ℕ). k < 256 * c) (sym (number-from (0 + x) xs)) (digits-lt (omega (arith, b 0)) (number-below xs (λ i. b (suc i)))))
+    rw (pow-succ' 256 (length xs), number-from (0 + x) xs) (digits-lt (omega (arith, b 0)) (number-below xs (λ i. b (suc i))))
 
 -- what is written reads back, at every width
 pub reads-back : (w h n : ℕ) → numberFrom h (digits w n) ≡ h * 256 ^ w + n % 256 ^ w
@@ -48,22 +44,17 @@ reads-back zero h n = omega arith
 reads-back (suc w) h n =
     let c = 256 ^ w in
     let d = n / c % 256 in
-    reads-back w (h * 256 + d) n
-    ∙ ap (λ (k : ℕ). k + n % c) (add-mul (h * 256) d c ∙ ap (λ (k : ℕ). k + d * c) (mul-assoc h 256 c))
-    ∙ add-assoc (h * (256 * c)) (d * c) (n % c)
-    ∙ ap (λ (k : ℕ). h * (256 * c) + k) (sym (mod-mul n (lit< tt) (some w)))
-    ∙ ap (λ (k : ℕ). h * k + n % k) (sym (pow-succ' 256 w))
+    let up = ap (λ (k : ℕ). h * k + n % k) (pow-succ' 256 w) in
+    omega (arith, reads-back w (h * 256 + d) n, add-mul (h * 256) d c, mul-assoc h 256 c, mod-mul n {m = 256} {c = c} (lit< tt) (some w))
 
 -- what is read writes back, at every width
 pub writes-back : (h : ℕ) (xs : List ℕ) → Bytes xs → digits (length xs) (numberFrom h xs) ≡ xs
 writes-back h [] b = refl
 writes-back h (x ∷ xs) b =
-    let c = 256 ^ length xs in
     let rest : Bytes xs = λ i. b (suc i) in
-    ap (λ (k : ℕ). k / c % 256 ∷ digits (length xs) (numberFrom (h * 256 + x) xs)) (number-from (h * 256 + x) xs)
-    ∙ ap (λ (k : ℕ). k % 256 ∷ digits (length xs) (numberFrom (h * 256 + x) xs)) (digits-div (h * 256 + x) (number-below xs rest))
-    ∙ ap (λ (k : ℕ). k ∷ digits (length xs) (numberFrom (h * 256 + x) xs)) (digits-mod h (b 0))
-    ∙ ap (λ (l : List ℕ). x ∷ l) (writes-back (h * 256 + x) xs rest)
+    let first : numberFrom (h * 256 + x) xs / 256 ^ length xs % 256 ≡ x =
+    rw (number-from (h * 256 + x) xs, digits-div (h * 256 + x) (number-below xs rest)) (digits-mod h (b 0)) in
+    λ i. first i ∷ writes-back (h * 256 + x) xs rest i
 
 -- one below 256 ^ w is the number of its w bytes
 pub number-digits : (w n : ℕ) → n < 256 ^ w → number (digits w n) ≡ n
@@ -71,20 +62,10 @@ number-digits w n h = reads-back w 0 n ∙ omega (arith, mod-eq-of-lt h)
 
 -- the first bytes of four: the highest, and then those of what is left when that is taken off at the top
 pub next-of-four : (n k : ℕ) → k ≤ 3 → take (suc k) (digits 4 n) ≡ n / 16777216 % 256 ∷ take k (digits 4 (n % 16777216 * 256))
-next-of-four n zero h = refl
-next-of-four n (suc zero) h =
-    let r : ℕ = n % 16777216 * 256 in
-    let b : n / 65536 % 256 ≡ r / 16777216 % 256 = omega arith in
-    ap (λ (x : ℕ). n / 16777216 % 256 ∷ x ∷ []) b
-next-of-four n (suc (suc zero)) h =
-    let r : ℕ = n % 16777216 * 256 in
-    let b : n / 65536 % 256 ≡ r / 16777216 % 256 = omega arith in
-    let c : n / 256 % 256 ≡ r / 65536 % 256 = omega arith in
-    λ i. n / 16777216 % 256 ∷ b i ∷ c i ∷ []
-next-of-four n (suc (suc (suc zero))) h =
+next-of-four n k h =
+    let high : ℕ = n / 16777216 % 256 in
     let r : ℕ = n % 16777216 * 256 in
     let b : n / 65536 % 256 ≡ r / 16777216 % 256 = omega arith in
     let c : n / 256 % 256 ≡ r / 65536 % 256 = omega arith in
     let d : n / 1 % 256 ≡ r / 256 % 256 = omega arith in
-    λ i. n / 16777216 % 256 ∷ b i ∷ c i ∷ d i ∷ []
-next-of-four n (suc (suc (suc (suc k)))) h = absurd (let f : ⊥ = omega arith in f)
+    ap (take (suc k)) (λ i. high ∷ b i ∷ c i ∷ d i ∷ []) ∙ ap (λ (l : List ℕ). high ∷ l) (take-take k 3 (digits 4 r) h)

@@ -7,7 +7,7 @@ use native.Mathlib.Nat.{add-suc}
 use native.Mathlib.Numerals.{add-one}
 use native.Mathlib.Omega.{arith}
 use lib.ListN.{length, getD, take, drop, set, length-append}
-use lib.Seq.{drop-cons}
+use lib.Seq.{take-all, drop-cons}
 use Rattle.facts.specs.BigEndian.{number}
 use Rattle.facts.specs.Over.{over}
 use Rattle.facts.proofs.Over.{over-nil, over-over, set-over, length-over}
@@ -37,11 +37,15 @@ part-cells s at (suc w) h =
     ∙ ap (λ (k : ℕ). getD s at 0 ∷ take w (drop k s)) (sym (add-one at))
     ∙ ap (λ (l : List ℕ). getD s at 0 ∷ l) (part-from s at 1 w (omega arith))
 
+-- and is the number that they are
+pub cells-number : (s : List ℕ) (at w : ℕ) → at + w ≤ length s → number (cells s at w) ≡ number (take w (drop at s))
+cells-number s at w there = ap number (sym (part-cells s at w there))
+
 -- one byte is its number
 pub byte-at : (s : List ℕ) (at : ℕ) → at + 1 ≤ length s → getD s at 0 ≡ number (take 1 (drop at s))
 byte-at s at there =
     let e : getD s at 0 ≡ 0 * 256 + getD s at 0 = omega arith in
-    e ∙ ap number (sym (part-cells s at 1 there))
+    e ∙ cells-number s at 1 there
 
 -- bytes stored at at + i, at + i + 1 and so on
 abbrev pub storesFrom : List ℕ → ℕ → ℕ → List ℕ → List ℕ
@@ -70,3 +74,10 @@ pub stores-over : (d : List ℕ) (at : ℕ) (bs : List ℕ) → at + length bs �
 stores-over d at [] h = sym (over-nil d at)
 stores-over d at (b ∷ bs) h =
     ap (λ (x : List ℕ). storesFrom x at 1 bs) (set-over d at b (omega arith)) ∙ stored-from d at (b ∷ []) 1 bs refl (omega arith)
+
+-- and those of all bytes of a list are the write of it
+pub stores-cells : (d : List ℕ) (at : ℕ) (bs : List ℕ) (w : ℕ) → length bs ≡ w → at + w ≤ length d
+    → stores d at (cells bs 0 w) ≡ over d at bs
+stores-cells d at bs w e h =
+    let whole : bs ≡ cells bs 0 w = sym (take-all w bs (omega arith)) ∙ part-cells bs 0 w (omega arith) in
+    stores-over d at (cells bs 0 w) (omega (arith, ap length whole)) ∙ ap (over d at) (sym whole)

@@ -1,4 +1,5 @@
 pub mod Over
+pub mod Laid
 pub mod Pieces
 pub mod Ranges
 pub mod Table
@@ -7,7 +8,9 @@ pub mod Signs
 pub mod Cells
 pub mod Least
 pub mod Folds
+pub mod ByHand
 pub mod Steps
 pub mod Values
 pub mod Lending
+pub mod Walking
 pub mod Unique

@@ -3,7 +3,7 @@
 use mathlib.Core.Path.{_≡_, refl, sym, ap, _∙_}
 use Prim.Native.Nat.{ℕ, suc, zero, _+_, _-_, _*_, _/_, _≤_, _<_}
 use native.Mathlib.Omega.{arith}
-use native.Mathlib.Nat.{not-suc-le-zero, le-refl, div-eq-of-lt, div-eq-sub-div, suc-mul, add-comm, div-add-mod', mul-le-mul-right}
+use native.Mathlib.Nat.{not-suc-le-zero, le-refl, div-eq-of-lt, div-eq-sub-div, suc-mul, zero-mul, add-comm, div-add-mod', mul-le-mul-right}
 use lib.Arith.{digits-div}
 use native.Mathlib.Decide.{decLe}
 use mathlib.Core.List.{List, [], _∷_, _++_, flatten}
@@ -38,19 +38,23 @@ unfolding pieces piecesIn
 pieces-none size = refl
 
 module _ (size : ℕ) (some : 0 < size) where
-  -- the pieces one behind the other are the list
-  flatten-in : (k : ℕ) (l : List ℕ) → length l ≤ k → flatten (pieces size l) ≡ l
-  unfolding flatten
-  flatten-in zero [] h = ap flatten (pieces-none size)
-  flatten-in zero (x ∷ l) h = absurd (not-suc-le-zero h)
-  flatten-in (suc k) [] h = ap flatten (pieces-none size)
-  flatten-in (suc k) (x ∷ l) h =
-      ap flatten (pieces-more size some (x ∷ l) (omega arith))
-      ∙ ap (λ (r : List ℕ). take size (x ∷ l) ++ r) (flatten-in k (drop size (x ∷ l)) (omega (arith, length-drop size (x ∷ l))))
-      ∙ take-append-drop size (x ∷ l)
+  -- what holds of no elements, and of some where it holds behind the first piece, holds of every list
+  by-pieces : (P : List ℕ → Type 0) → P [] → ((x : ℕ) (l : List ℕ) → P (drop size (x ∷ l)) → P (x ∷ l)) → (l : List ℕ) → P l
+  by-pieces P none more l = go (length l) l (le-refl _)
+    where
+      go : (k : ℕ) (l : List ℕ) → length l ≤ k → P l
+      go zero [] h = none
+      go zero (x ∷ l) h = absurd (not-suc-le-zero h)
+      go (suc k) [] h = none
+      go (suc k) (x ∷ l) h = more x l (go k (drop size (x ∷ l)) (omega (arith, length-drop size (x ∷ l))))
 
+  -- the pieces one behind the other are the list
   pub flatten-pieces : (l : List ℕ) → flatten (pieces size l) ≡ l
-  flatten-pieces l = flatten-in (length l) l (le-refl _)
+  unfolding flatten
+  flatten-pieces =
+      by-pieces (λ l. flatten (pieces size l) ≡ l) (ap flatten (pieces-none size))
+      (λ x l rest. ap flatten (pieces-more size some (x ∷ l) (omega arith))
+      ∙ ap (λ (r : List ℕ). take size (x ∷ l) ++ r) rest ∙ take-append-drop size (x ∷ l))
 
   -- how many there are: the length by the size, rounded up
   one-more : (n : ℕ) → 0 < n → (n + (size - 1)) / size ≡ suc ((n - size + (size - 1)) / size)
@@ -68,23 +72,12 @@ module _ (size : ℕ) (some : 0 < size) where
           let c = div-eq-of-lt {n = n - size + (size - 1)} {m = size} (omega arith) in
           omega arith
 
-  count-in : (k : ℕ) (l : List ℕ) → length l ≤ k → length (pieces size l) ≡ (length l + (size - 1)) / size
-  count-in zero [] h =
-      let a = div-eq-of-lt {n = 0 + (size - 1)} {m = size} (omega arith) in
-      ap length (pieces-none size) ∙ sym a
-  count-in zero (x ∷ l) h = absurd (not-suc-le-zero h)
-  count-in (suc k) [] h =
-      let a = div-eq-of-lt {n = 0 + (size - 1)} {m = size} (omega arith) in
-      ap length (pieces-none size) ∙ sym a
-  count-in (suc k) (x ∷ l) h =
-      let all : List ℕ = x ∷ l in
-      let d = length-drop size all in
-      ap length (pieces-more size some all (omega arith))
-      ∙ ap suc (count-in k (drop size all) (omega arith) ∙ ap (λ (n : ℕ). (n + (size - 1)) / size) d)
-      ∙ sym (one-more (length all) (omega arith))
-
   pub count-pieces : (l : List ℕ) → length (pieces size l) ≡ (length l + (size - 1)) / size
-  count-pieces l = count-in (length l) l (le-refl _)
+  count-pieces =
+      by-pieces (λ l. length (pieces size l) ≡ (length l + (size - 1)) / size)
+      (ap length (pieces-none size) ∙ sym (div-eq-of-lt {n = 0 + (size - 1)} {m = size} (omega arith)))
+      (λ x l rest. ap length (pieces-more size some (x ∷ l) (omega arith))
+      ∙ ap suc (rest ∙ ap (λ (n : ℕ). (n + (size - 1)) / size) (length-drop size (x ∷ l))) ∙ sym (one-more (length (x ∷ l)) (omega arith)))
 
   -- a length of so many whole sizes gives so many pieces
   pub count-whole : (l : List ℕ) (n : ℕ) → length l ≡ n * size → length (pieces size l) ≡ n
@@ -93,27 +86,21 @@ module _ (size : ℕ) (some : 0 < size) where
 
   -- the pieces behind the first k
   drop-pieces : (k : ℕ) (l : List ℕ) → drop k (pieces size l) ≡ pieces size (drop (k * size) l)
-  drop-pieces zero l = ap (λ (n : ℕ). pieces size (drop n l)) (let z : 0 ≡ 0 * size = omega arith in z)
-  drop-pieces (suc k) [] =
-      ap (drop (suc k)) (pieces-none size) ∙ sym (ap (pieces size) (drop-nil (suc k * size)) ∙ pieces-none size)
+  drop-pieces zero l = rw zero-mul
+  drop-pieces (suc k) [] = rw (drop-nil (suc k * size), pieces-none size)
   drop-pieces (suc k) (x ∷ l) =
-      let e : size + k * size ≡ suc k * size = sym (suc-mul k size ∙ add-comm (k * size) size) in
-      ap (drop (suc k)) (pieces-more size some (x ∷ l) (omega arith))
-      ∙ drop-pieces k (drop size (x ∷ l))
-      ∙ ap (pieces size) (drop-drop (k * size) size (x ∷ l) ∙ ap (λ (n : ℕ). drop n (x ∷ l)) e)
+      rw (pieces-more size some (x ∷ l) (omega arith), suc-mul k size, add-comm (k * size) size, ← (drop-drop (k * size) size (x ∷ l)))
+      (drop-pieces k (drop size (x ∷ l)))
 
   -- the piece at an index
   pub piece-at : (k : ℕ) (l : List ℕ) → getD (pieces size l) k [] ≡ take size (drop (k * size) l)
   piece-at k l =
       let z : k + 0 ≡ k = omega arith in
-      ap (λ (n : ℕ). getD (pieces size l) n []) (sym z)
-      ∙ sym (getD-drop k (pieces size l) 0 [])
-      ∙ ap (λ (ps : List (List ℕ)). getD ps 0 []) (drop-pieces k l)
-      ∙ first (drop (k * size) l)
+      rw (← z, ← (getD-drop k (pieces size l) 0 []), drop-pieces k l) (rw z (first (drop (k * size) l)))
     where
       first : (m : List ℕ) → getD (pieces size m) 0 [] ≡ take size m
-      first [] = ap (λ (ps : List (List ℕ)). getD ps 0 []) (pieces-none size) ∙ sym (take-nil size)
-      first (x ∷ m) = ap (λ (ps : List (List ℕ)). getD ps 0 []) (pieces-more size some (x ∷ m) (omega arith))
+      first [] = rw (pieces-none size, take-nil size)
+      first (x ∷ m) = rw (pieces-more size some (x ∷ m) (omega arith))
 
 -- a whole piece lies inside
 pub piece-lies : (size n index : ℕ) → index < n / size → index * size + size ≤ n

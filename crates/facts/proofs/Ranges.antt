@@ -1,12 +1,13 @@
 -- A list of ranges gives one answer to all numbers from one to another: a test that antt computes, and the law that uses it.
 -- It serves each branch of a function that goes by ranges.
 -- Assumes nothing.
-use mathlib.Core.Path.{_≡_, refl, ap}
-use mathlib.Core.Bool.{Bool, true, false, cond, _&&_, _||_}
+use mathlib.Core.Path.{_≡_, refl}
+use mathlib.Core.Bool.{Bool, true, false, cond, _&&_, _||_, and-false, and-eq-true-iff}
 use mathlib.Core.List.{List, [], _∷_}
 use mathlib.Core.Option.{Option, none, some}
 use Prim.Native.Nat.{ℕ, zero, suc, _≤_, _<_}
 use native.Mathlib.Omega.{arith}
+use native.Mathlib.Decide.{decLt}
 use borrow.Author.Tests.{le-leb, lt-leb, leb-true, ltb-true}
 use lib.Dec.{leb, ltb}
 use Rattle.facts.specs.Ranges.{Row, row, lookup, within}
@@ -23,32 +24,30 @@ uniform other [] low high = some other
 uniform other (row l h answer ∷ rows) low high =
     cond (ltb h low || ltb high l) (uniform other rows low high) (cond (leb l low && leb high h) (some answer) none)
 
+-- a number above a range, below it, and within it
+above : (l h n : ℕ) → h < n → within l h n ≡ false
+unfolding within
+above l h n p = simp (lt-leb n h p, and-false)
+
+below : (l h n : ℕ) → n < l → within l h n ≡ false
+unfolding within
+below l h n p = rw (lt-leb l n p)
+
+inside : (l h n : ℕ) → l ≤ n → n ≤ h → within l h n ≡ true
+unfolding within
+inside l h n p q = simp (le-leb l n p, le-leb n h q)
+
 module _ {A : Type 0} (other : A) (low high n : ℕ) (from : low ≤ n) (to : n ≤ high) where
-  above : (l h : ℕ) → h < low → within l h n ≡ false
-  unfolding within
-  above l h p = both-false (leb l n) (leb n h) (lt-leb n h (omega arith))
-    where
-      both-false : (a b : Bool) → b ≡ false → (a && b) ≡ false
-      both-false true b e = e
-      both-false false b e = refl
-
-  below : (l h : ℕ) → high < l → within l h n ≡ false
-  unfolding within
-  below l h p = ap (λ (t : Bool). t && leb n h) (lt-leb l n (omega arith))
-
-  inside : (l h : ℕ) → l ≤ low → high ≤ h → within l h n ≡ true
-  unfolding within
-  inside l h p q = simp (le-leb l n (omega arith), le-leb n h (omega arith))
-
   step : (l h : ℕ) (a answer : A) (rows : List (Row A)) → (uniform other rows low high ≡ some answer → lookup other rows n ≡ answer)
       → (t₁ t₂ t₃ t₄ : Bool) → ltb h low ≡ t₁ → ltb high l ≡ t₂ → leb l low ≡ t₃ → leb high h ≡ t₄
       → cond (t₁ || t₂) (uniform other rows low high) (cond (t₃ && t₄) (some a) none) ≡ some answer
       → cond (within l h n) a (lookup other rows n) ≡ answer
-  step l h a answer rows more true t₂ t₃ t₄ p q r s e = rw (above l h (ltb-true h low p)) (more e)
-  step l h a answer rows more false true t₃ t₄ p q r s e = rw (below l h (ltb-true high l q)) (more e)
-  step l h a answer rows more false false true true p q r s e = rw (inside l h (leb-true l low r) (leb-true high h s)) (cc)
-  step l h a answer rows more false false true false p q r s e = let z : _≡_ {A = ℕ} 0 1 = cc in absurd (omega arith)
-  step l h a answer rows more false false false t₄ p q r s e = let z : _≡_ {A = ℕ} 0 1 = cc in absurd (omega arith)
+  step l h a answer rows more true t₂ t₃ t₄ p q r s e = rw (above l h n (omega (arith, ltb-true h low p))) (more e)
+  step l h a answer rows more false true t₃ t₄ p q r s e = rw (below l h n (omega (arith, ltb-true high l q))) (more e)
+  step l h a answer rows more false false true true p q r s e =
+      rw (inside l h n (omega (arith, leb-true l low r)) (omega (arith, leb-true high h s))) (cc)
+  step l h a answer rows more false false true false p q r s e = cc
+  step l h a answer rows more false false false t₄ p q r s e = cc
 
   -- all numbers from low to high are given the one answer
   pub one-answer : (rows : List (Row A)) (answer : A) → uniform other rows low high ≡ some answer → lookup other rows n ≡ answer
@@ -66,23 +65,21 @@ allBelow most other (row l h answer ∷ rows) = ltb answer most && allBelow most
 pub lookup-below : (most other : ℕ) (rows : List (Row ℕ)) (n : ℕ) → allBelow most other rows ≡ true → lookup other rows n < most
 unfolding lookup
 lookup-below most other [] n e = ltb-true other most e
-lookup-below most other (row l h a ∷ rows) n e = go (ltb a most) refl e (lookup-below most other rows n) (within l h n)
+lookup-below most other (row l h a ∷ rows) n e =
+    let both = and-eq-true-iff (ltb a most) (allBelow most other rows) .0 e in
+    go (ltb-true a most (both .0)) (lookup-below most other rows n (both .1)) (within l h n)
   where
-    go : (t : Bool) → ltb a most ≡ t → (t && allBelow most other rows) ≡ true → (allBelow most other rows ≡ true → lookup other rows n < most)
-        → (u : Bool) → cond u a (lookup other rows n) < most
-    go true p q more true = ltb-true a most p
-    go true p q more false = more q
-    go false p q more u = let z : _≡_ {A = ℕ} 0 1 = cc in absurd (omega arith)
+    go : a < most → lookup other rows n < most → (t : Bool) → cond t a (lookup other rows n) < most
+    go first more true = first
+    go first more false = more
 
 -- a number that a row of one number does not hold
 pub outside : (k n : ℕ) → (n ≡ k → ⊥) → within k k n ≡ false
-unfolding within
-outside k n ne = go (leb k n) (leb n k) refl refl
+outside k n ne = go (decLt n k)
   where
-    go : (a b : Bool) → leb k n ≡ a → leb n k ≡ b → (a && b) ≡ false
-    go true true p q = let e : n ≡ k = omega (arith, leb-true k n p, leb-true n k q) in absurd (ne e)
-    go true false p q = refl
-    go false b p q = refl
+    go : Dec (n < k) → within k k n ≡ false
+    go (yes h) = below k k n h
+    go (no h) = above k k n (omega arith)
 
 -- a number that is none of the first i, as the last arm of a match on 0, 1 and so on has it
 abbrev pub NoneOf : ℕ → ℕ → Type 0
@@ -91,7 +88,4 @@ NoneOf n (suc i) = NoneOf n i × (n ≡ i → ⊥)
 
 pub beyond : (n i : ℕ) → NoneOf n i → i ≤ n
 beyond n zero none-of = omega arith
-beyond n (suc i) none-of =
-    let h = beyond n i (none-of .0) in
-    let other = none-of .1 in
-    omega arith
+beyond n (suc i) none-of = let other = none-of .1 in omega (arith, beyond n i (none-of .0))

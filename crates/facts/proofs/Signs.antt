@@ -1,8 +1,8 @@
 -- Two's complement at 32 bits: what the casts and the complements of the code make, by the sign, and that a number and its bits
 -- give each other back.
 -- Assumes nothing.
-use mathlib.Core.Path.{_≡_, _∙_, ap, sym, subst}
-use mathlib.Core.Bool.{Bool, true, false}
+use mathlib.Core.Path.{_≡_, _∙_, ap, subst}
+use mathlib.Core.Bool.{true, false}
 use Prim.Native.Nat.{ℕ, suc, _-_, _^_, _<_, _≤_}
 use native.Mathlib.Omega.{arith}
 use native.Mathlib.Decide.{decLe}
@@ -13,11 +13,11 @@ use lib.Signed.{ltZ, nonNeg}
 use mir.Syntax.{w32}
 use mir.Val.{SFits, Fits, toZ, ofZ}
 use mir.Facts.{toZ-ofZ, toZ-pos}
-use Rattle.facts.specs.BigEndian.{signed, unsigned, pickInt}
+use Rattle.facts.specs.BigEndian.{signed, unsigned}
 
 -- from bits to a number: below 2 ^ 31 they are it
 not-negative : (x : ℕ) → x < 2 ^ 31 → signed x ≡ pos x
-not-negative x h = ap (λ (t : Bool). pickInt t (pos x) (negsuc (2 ^ 32 - suc x))) (lt-ltb x (2 ^ 31) h)
+not-negative x h = simp (lt-ltb x (2 ^ 31) h)
 
 -- from 2 ^ 31 on, it is the complement of what the complemented bits are
 pub negative : (x : ℕ) → 2 ^ 31 ≤ x → x < 2 ^ 32 → toZ w32 (4294967295 - (4294967295 - x)) ≡ signed x
@@ -31,9 +31,7 @@ signed-back (pos n) f = let h : n < 2 ^ 31 = f .sfits in not-negative n h
 signed-back (negsuc n) f =
     let h : n < 2 ^ 31 = f .sfits in
     let e : 2 ^ 32 - suc (2 ^ 32 - suc n) ≡ n = omega arith in
-    ap (λ (t : Bool). pickInt t (pos (2 ^ 32 - suc n)) (negsuc (2 ^ 32 - suc (2 ^ 32 - suc n))))
-    (le-ltb (2 ^ 32 - suc n) (2 ^ 31) (omega arith))
-    ∙ ap negsuc e
+    simp (le-ltb (2 ^ 32 - suc n) (2 ^ 31) (omega arith), e)
 
 pub unsigned-back : (x : ℕ) → x < 2 ^ 32 → unsigned (signed x) ≡ x
 unsigned-back x h = go (decLe (2 ^ 31) x)
@@ -41,7 +39,7 @@ unsigned-back x h = go (decLe (2 ^ 31) x)
     go : Dec (2 ^ 31 ≤ x) → unsigned (signed x) ≡ x
     go (yes p) =
         let e : 2 ^ 32 - suc (2 ^ 32 - suc x) ≡ x = omega arith in
-        ap (λ (t : Bool). unsigned (pickInt t (pos x) (negsuc (2 ^ 32 - suc x)))) (le-ltb x (2 ^ 31) p) ∙ e
+        simp (le-ltb x (2 ^ 31) p) e
     go (no p) = ap unsigned (not-negative x (omega arith))
 
 -- the complement of the bits of -(n + 1) is n
@@ -56,9 +54,7 @@ below z f t = rw (toZ-ofZ {w = w32} {z = z} f) at t
 pub low-cast : (z : ℤ) → SFits w32 z → ltZ (toZ w32 (ofZ w32 z)) (pos 0) ≡ true
     → T (nonNeg (toZ w32 (4294967295 - ofZ w32 z))) × Fits w32 (natAbs (toZ w32 (4294967295 - ofZ w32 z)))
 low-cast (pos n) f t = let h : n < 0 = ltb-true n 0 (below (pos n) f t) in absurd (omega arith)
-low-cast (negsuc n) f t =
-    let h : n < 2 ^ 31 = f .sfits in
-    subst (λ (y : ℤ). T (nonNeg y) × Fits w32 (natAbs y)) (sym (flip n h)) (tt, record { fits = omega arith })
+low-cast (negsuc n) f t = let h : n < 2 ^ 31 = f .sfits in rw (flip n h) (tt, record { fits = omega arith })
 
 pub low-is : (z : ℤ) → SFits w32 z → ltZ (toZ w32 (ofZ w32 z)) (pos 0) ≡ true
     → 4294967295 - natAbs (toZ w32 (4294967295 - ofZ w32 z)) ≡ unsigned z
@@ -69,8 +65,7 @@ low-is (negsuc n) f t = let h : n < 2 ^ 31 = f .sfits in ap (λ (y : ℤ). 42949
 pub high-cast : (z : ℤ) → SFits w32 z → ltZ (toZ w32 (ofZ w32 z)) (pos 0) ≡ false
     → T (nonNeg (toZ w32 (ofZ w32 z))) × Fits w32 (natAbs (toZ w32 (ofZ w32 z)))
 high-cast (pos n) f t =
-    let h : n < 2 ^ 31 = f .sfits in
-    subst (λ (y : ℤ). T (nonNeg y) × Fits w32 (natAbs y)) (sym (toZ-ofZ {w = w32} {z = pos n} f)) (tt, record { fits = omega arith })
+    let h : n < 2 ^ 31 = f .sfits in rw (toZ-ofZ {w = w32} {z = pos n} f) (tt, record { fits = omega arith })
 high-cast (negsuc n) f t = absurd (subst T (rw (toZ-ofZ {w = w32} {z = negsuc n} f) at t) tt)
 
 pub high-is : (z : ℤ) → SFits w32 z → ltZ (toZ w32 (ofZ w32 z)) (pos 0) ≡ false → natAbs (toZ w32 (ofZ w32 z)) ≡ unsigned z

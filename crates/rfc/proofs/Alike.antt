@@ -1,12 +1,13 @@
 -- Checks that decide alike, and writes that answer and leave the same.
 -- Assumes nothing.
 use mathlib.Core.Path.{_≡_, refl, ap, _∙_}
-use Prim.Native.Nat.{ℕ, _+_}
+use Prim.Native.Nat.{ℕ, _+_, _≤_}
 use mathlib.Core.Bool.{Bool, false}
 use mathlib.Core.List.{List, [], _∷_, _++_}
 use lib.ListN.{length}
-use Rattle.rfc.specs.Numbers.{Answer, given, noRoom, Check, check, checked}
-use Rattle.rfc.specs.Writing.{Write, writeChecks, answerTo, roomLeft, roomAfter}
+use Rattle.rfc.specs.Numbers.{Answer, given, pastEnd, noRoom, Check, check, checked}
+use Rattle.rfc.specs.Writing.{Write, writeChecks, answerTo, roomLeft, roomAfter, writeSlice}
+use Rattle.rfc.proofs.Numbers.{Clear, done, next, not-past}
 
 -- two runs of checks that decide alike: the tests that may hold are the same, with the same numbers
 pub data Alike : List Check → List Check → Type 0 where
@@ -21,6 +22,11 @@ alike answer none = refl
 alike answer (both e a) = rw (e, alike answer a)
 alike answer (passes-left e a) = rw e (alike answer a)
 alike answer (passes-right e a) = rw e (alike answer a)
+
+-- checks that are clear decide as none do
+pub clear-none : {cs : List Check} → Clear cs → Alike [] cs
+clear-none done = none
+clear-none (next e c) = passes-right e (clear-none c)
 
 -- with the same checks behind them
 pub alike-front : {cs ds : List Check} (es : List Check) → Alike cs ds → Alike (cs ++ es) (ds ++ es)
@@ -41,3 +47,12 @@ module _ {w v : Write} (room : List ℕ) (place : ℕ) (e : w .bytes ≡ v .byte
   pub left-alike : roomAfter w room place ≡ roomAfter v room place
   unfolding roomAfter
   left-alike = ap (λ (r : Answer ℕ). roomLeft r room place (w .bytes)) answers-alike ∙ ap (roomLeft (answerTo v room place) room place) e
+
+-- a write whose checks are clear, where only the end of the room can refuse it: it is the write of its bytes as they stand
+pub clear-slice : (w : Write) (room : List ℕ) (place : ℕ) → Clear (w .checks) → place ≤ length room
+    → (answerTo (writeSlice (w .bytes) room place) room place ≡ answerTo w room place)
+    × (roomAfter (writeSlice (w .bytes) room place) room place ≡ roomAfter w room place)
+unfolding writeSlice
+clear-slice w room place c h =
+    let same : Alike (check (pastEnd place room) 4 ∷ []) (w .checks) = passes-left (not-past place room h) (clear-none c) in
+    (answers-alike room place refl same, left-alike room place refl same)

@@ -69,13 +69,11 @@ empty-bytes kind content noNumbers = refl
 
 pub bytes-empty : (kind : ℕ) (content : Content) → Proper kind content → kind < 15 → bytesIn kind content ≡ [] → Empty content
 bytes-empty kind (raw v) p h e = subst (λ (l : List ℕ). Empty (raw l)) (sym e) noBytes
-bytes-empty kind (natural n) p h e =
-    absurd (let f : ⊥ = omega (arith, ap length e, length-digits (sizeOf kind) n, size-some kind h) in f)
-bytes-empty kind (integer z) p h e =
-    absurd (let f : ⊥ = omega (arith, ap length e, length-digits (sizeOf kind) (unsigned z), size-some kind h) in f)
-bytes-empty kind (truth b) p h e = absurd (let f : ⊥ = omega (arith, ap length e) in f)
+bytes-empty kind (natural n) p h e = absurd (omega (arith, ap length e, length-digits (sizeOf kind) n, size-some kind h))
+bytes-empty kind (integer z) p h e = absurd (omega (arith, ap length e, length-digits (sizeOf kind) (unsigned z), size-some kind h))
+bytes-empty kind (truth b) p h e = absurd (omega (arith, ap length e))
 bytes-empty kind (numbers []) p h e = noNumbers
 bytes-empty kind (numbers (n ∷ l)) p h e =
     let w : ℕ = widthOf kind in
-    absurd (let f : ⊥ = omega (arith, ap length e, length-digits-of w (n ∷ l), mul-suc w (length l), width-some kind h) in f)
-bytes-empty kind nothing flag h e = absurd (let f : ⊥ = omega arith in f)
+    absurd (omega (arith, ap length e, length-digits-of w (n ∷ l), mul-suc w (length l), width-some kind h))
+bytes-empty kind nothing flag h e = absurd (omega arith)

@@ -5,7 +5,7 @@ use Prim.Native.Nat.{ℕ, suc, _+_, _*_, _/_, _%_, _≤_, _<_}
 use mathlib.Core.Bool.{false}
 use mathlib.Core.List.{List, [], _∷_}
 use native.Mathlib.Omega.{arith}
-use native.Mathlib.Nat.{div-add-mod', mul-assoc}
+use native.Mathlib.Nat.{div-add-mod', mul-assoc, mul-one}
 use borrow.Author.Tests.{lt-leb, le-leb, eqb-true, not-false}
 use lib.Dec.{lit<}
 use lib.ListN.{length, take, drop, getD, List·getD-map, length-map}
@@ -20,34 +20,25 @@ use Rattle.rfc.specs.Values.{numbers, Value, numbersOf, widthOf, valueOf
 use Rattle.rfc.proofs.Numbers.{refused-stands}
 use Rattle.rfc.proofs.Values.{Listed, addresses, codes, listed-value, pairs, u16s, value}
 
--- a list by its kind
+-- a list by its kind: its sizes, its elements, and that a right length leaves no rest
+record Is {kind width n : ℕ} (k : Listed kind width n) : Type 0 where
+  size : (sizeOf kind ≡ n * width) × (0 < width) × (0 < n)
+  some : 0 < sizeOf kind
+  cuts : (l : List ℕ) → elements (value kind (numbers l)) ≡ pieces n l
+  rest : (v : List ℕ) → wrongLength plain kind v ≡ false → length v % sizeOf kind ≡ 0
+
+is : {kind width n : ℕ} (k : Listed kind width n) → Is k
+unfolding elements widthOf wrongLength ruleFor rules lookup within sizeOf sizes
+is addresses = record { size = (refl, lit< tt, lit< tt); some = lit< tt; cuts = λ l. refl; rest = λ v e. eqb-true _ 0 (not-false _ e) }
+is pairs = record { size = (refl, lit< tt, lit< tt); some = lit< tt; cuts = λ l. refl; rest = λ v e. eqb-true _ 0 (not-false _ e) }
+is u16s = record { size = (refl, lit< tt, lit< tt); some = lit< tt; cuts = λ l. refl; rest = λ v e. eqb-true _ 0 (not-false _ e) }
+is codes = record { size = (refl, lit< tt, lit< tt); some = lit< tt; cuts = λ l. refl; rest = λ v e. eqb-true _ 0 (not-false _ e) }
+
 pub listed-size : {kind width n : ℕ} → Listed kind width n → (sizeOf kind ≡ n * width) × (0 < width) × (0 < n)
-unfolding sizeOf sizes
-listed-size addresses = (refl, lit< tt, lit< tt)
-listed-size pairs = (refl, lit< tt, lit< tt)
-listed-size u16s = (refl, lit< tt, lit< tt)
-listed-size codes = (refl, lit< tt, lit< tt)
+listed-size k = is k .size
 
 pub listed-some : {kind width n : ℕ} → Listed kind width n → 0 < sizeOf kind
-unfolding sizeOf sizes
-listed-some addresses = lit< tt
-listed-some pairs = lit< tt
-listed-some u16s = lit< tt
-listed-some codes = lit< tt
-
-listed-elements : {kind width n : ℕ} → Listed kind width n → (l : List ℕ) → elements (value kind (numbers l)) ≡ pieces n l
-unfolding elements sizeOf sizes widthOf lookup within
-listed-elements addresses l = refl
-listed-elements pairs l = refl
-listed-elements u16s l = refl
-listed-elements codes l = refl
-
-listed-rest : {kind width n : ℕ} → Listed kind width n → (v : List ℕ) → wrongLength plain kind v ≡ false → length v % sizeOf kind ≡ 0
-unfolding wrongLength ruleFor rules lookup within sizeOf sizes
-listed-rest addresses v e = eqb-true (length v % 4) 0 (not-false _ e)
-listed-rest pairs v e = eqb-true (length v % 8) 0 (not-false _ e)
-listed-rest u16s v e = eqb-true (length v % 2) 0 (not-false _ e)
-listed-rest codes v e = eqb-true (length v % 1) 0 (not-false _ e)
+listed-some k = is k .some
 
 -- the number at an index of some numbers
 number-at : (width : ℕ) → 0 < width → (v : List ℕ) (k : ℕ) → getD (numbersOf width v) k 0 ≡ number (take width (drop (k * width) v))
@@ -64,34 +55,25 @@ module _ {kind width n : ℕ} (k : Listed kind width n) (v : List ℕ) (right : 
   all-numbers =
       let s = listed-size k in
       let whole : length v ≡ count * sizeOf kind =
-      sym (omega (arith, div-add-mod' (length v) (sizeOf kind), listed-rest k v right)) in
+      sym (omega (arith, div-add-mod' (length v) (sizeOf kind), is k .rest v right)) in
       length-map (pieces width v) number
       ∙ count-whole width (s .1) v (count * n)
       (whole ∙ ap (λ (m : ℕ). count * m) (s .0) ∙ sym (mul-assoc count n width))
 
   pub listed-count : length (elements (valueOf kind v)) ≡ count
   listed-count =
-      ap (λ (x : Value). length (elements x)) (listed-value v k)
-      ∙ ap length (listed-elements k (numbersOf width v))
-      ∙ count-whole n (listed-size k .2) (numbersOf width v) count all-numbers
+      rw (listed-value v k, is k .cuts (numbersOf width v)) (count-whole n (listed-size k .2) (numbersOf width v) count all-numbers)
 
   -- the numbers of one element
   entries : (index : ℕ) → getD (elements (valueOf kind v)) index [] ≡ take n (drop (index * n) (numbersOf width v))
-  entries index =
-      ap (λ (x : Value). getD (elements x) index []) (listed-value v k)
-      ∙ ap (λ (ps : List (List ℕ)). getD ps index []) (listed-elements k (numbersOf width v))
-      ∙ piece-at n (listed-size k .2) index (numbersOf width v)
+  entries index = rw (listed-value v k, is k .cuts (numbersOf width v)) (piece-at n (listed-size k .2) index (numbersOf width v))
 
 -- an element of one number, and a pair
 pub one-entry : {kind width : ℕ} (k : Listed kind width 1) (v : List ℕ) → wrongLength plain kind v ≡ false → (index : ℕ)
     → index < length v / sizeOf kind → getD (elements (valueOf kind v)) index [] ≡ number (take width (drop (index * width) v)) ∷ []
 one-entry {width = width} k v right index h =
-    let l : List ℕ = numbersOf width v in
-    let one : index * 1 ≡ index = omega arith in
-    entries k v right index
-    ∙ ap (λ (i : ℕ). take 1 (drop i l)) one
-    ∙ ap (take 1) (drop-cons l index 0 (omega (arith, all-numbers k v right)))
-    ∙ ap (λ (m : ℕ). m ∷ []) (number-at width (listed-size k .1) v index)
+    let there : index < length (numbersOf width v) = omega (arith, all-numbers k v right) in
+    entries k v right index ∙ rw (mul-one, drop-cons (numbersOf width v) index 0 there, number-at width (listed-size k .1) v index)
 
 pub pair-entries : (v : List ℕ) → wrongLength plain 3 v ≡ false → (index : ℕ) → index < length v / sizeOf 3
     → getD (elements (valueOf 3 v)) index []
@@ -102,10 +84,8 @@ pair-entries v right index h =
     let first : index * 2 * 4 ≡ index * 8 = omega arith in
     let second : suc (index * 2) * 4 ≡ index * 8 + 4 = omega arith in
     entries pairs v right index
-    ∙ ap (take 2) (drop-cons l (index * 2) 0 (omega (arith, many)))
-    ∙ ap (λ (m : List ℕ). getD l (index * 2) 0 ∷ take 1 m) (drop-cons l (suc (index * 2)) 0 (omega (arith, many)))
-    ∙ (λ i. number-at 4 (lit< tt) v (index * 2) i ∷ number-at 4 (lit< tt) v (suc (index * 2)) i ∷ [])
-    ∙ (λ i. number (take 4 (drop (first i) v)) ∷ number (take 4 (drop (second i) v)) ∷ [])
+    ∙ rw (drop-cons l (index * 2) 0 (omega (arith, many)), drop-cons l (suc (index * 2)) 0 (omega (arith, many)))
+    (rw (number-at 4 (lit< tt) v (index * 2), number-at 4 (lit< tt) v (suc (index * 2)), first, second))
 
 -- the element of a value at an index: it is there, or not
 pub element-there : (index : ℕ) (x : Value) → index < length (elements x)

@@ -1,6 +1,6 @@
 -- The laws of `specs/Header.antt`: which messages are refused, and what each reading of the others answers.
 -- Assumes nothing.
-use mathlib.Core.Path.{_≡_, refl, sym, ap, _∙_, subst}
+use mathlib.Core.Path.{_≡_, refl, sym, ap, _∙_}
 use Prim.Native.Nat.{ℕ, suc, _+_, _-_, _≤_, _<_}
 use native.Mathlib.Numerals.{add-one}
 use native.Mathlib.Omega.{arith}
@@ -102,8 +102,7 @@ module _ (message : List ℕ) where
       let q = passes (chaddrChecks message) _ (given p) (given-no p) e in
       let same : given (chaddrPart message) ≡ given p = q .1 in
       let is : chaddrPart message ≡ p = cc in
-      subst (λ (x : Part). x .start + x .len ≤ length message) is
-      (ltb-false (length message) _ (clear-last (messageChecks message) (chaddrCut message) 3 (q .0)))
+      rw (← is) (ltb-false (length message) _ (clear-last (messageChecks message) (chaddrCut message) 3 (q .0)))
 
   -- the magic
   pub magic-read : magicRight message ≡ eqb (number (bytesOf magicField message)) (number magic)
@@ -132,9 +131,7 @@ module _ (message : List ℕ) where
     where
       go : (t : Bool) → given (cond t (options (part areaStart (length message - areaStart))) wrongMagic) ≡ given (options p)
           → leastMessage ≤ length message → p .start + p .len ≤ length message
-      go true same h =
-          let is : part areaStart (length message - areaStart) ≡ p = cc in
-          subst (λ (x : Part). x .start + x .len ≤ length message) is (omega arith)
+      go true same h = let is : part areaStart (length message - areaStart) ≡ p = cc in rw (← is) (omega arith)
       go false same h = absurd (let z : _≡_ {A = ℕ} 0 1 = cc in omega arith)
 
 -- no more bytes stand before the first zero than there are

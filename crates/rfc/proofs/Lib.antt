@@ -1,6 +1,7 @@
 pub mod Numbers
 pub mod Header
 pub mod Walk
+pub mod Finding
 pub mod Places
 pub mod Codes
 pub mod Text

@@ -5,14 +5,14 @@ use Prim.Native.Nat.{ℕ, suc, zero, _+_, _≤_, _<_}
 use native.Mathlib.Omega.{arith}
 use native.Mathlib.Nat.{not-suc-le-zero, le-refl}
 use mathlib.Core.List.{List, [], _∷_, _++_, append-assoc, append-nil}
-use lib.ListN.{length, drop, length-append}
+use lib.ListN.{length, drop, length-append, length-drop}
 use lib.Dec.{lit<}
-use lib.Seq.{drop-append-seam}
+use lib.Seq.{drop-append-seam, drop-drop}
 use Rattle.facts.specs.Over.{over}
 use Rattle.facts.specs.Pieces.{pieces}
 use Rattle.facts.proofs.Over.{over-over, length-over}
 use Rattle.rfc.specs.Numbers.{Answer, given, andThen, mostBytes, mostValue, mostPart, padCode, endCode}
-use Rattle.rfc.specs.Walk.{Found, stop, option, end, run, further, walk, roomFor, step}
+use Rattle.rfc.specs.Walk.{Found, stop, option, end, run, further, step}
 use Rattle.rfc.specs.Writing.{encode, Write, answerTo, roomAfter, writeBytes, close}
 use Rattle.rfc.specs.Lists.{Opt, Good, Differs, Valid, encodeAll, Made, does, finished, writeAll, Listing, onward, listIn, listing}
 use Rattle.rfc.proofs.Walk.{further-other, walk-end, stop-answered, answered, step-walks}
@@ -58,14 +58,7 @@ writes-all (o ∷ os) room place v h k =
     (omega (arith, length-over room place here f))
     ∙ (λ i. finished (over-over room place here there f i) (e i))
 
--- Walking. A call behind what has been walked
-step-behind : (area pre x : List ℕ) (room : ℕ) → area ≡ pre ++ x → length area ≤ mostBytes
-    → step area (length pre) room ≡ roomFor room (walk (length pre) x)
-step-behind area pre x room e h =
-    step-walks area (length pre) room h (omega (arith, ap length e, length-append pre x))
-    ∙ ap (λ (l : List ℕ). roomFor room (walk (length pre) l)) (ap (drop (length pre)) e ∙ drop-append-seam pre x)
-
--- no further part of a code follows, where the next option has another
+-- Walking. No further part of a code follows, where the next option has another
 next-other : (code : ℕ) (os : List Opt) (rest : List ℕ) → code ≤ 254 → Differs code os → Valid os
     → further code (encodeAll os ++ rest) ≡ run 0 []
 unfolding encodeAll
@@ -76,41 +69,37 @@ next-other code (o ∷ os) rest h d v =
 
 module _ (area rest : List ℕ) (room : ℕ) (short : length area ≤ mostBytes) (joins : mostValue ≤ room) where
   -- the call at the list's End
-  at-end : (pre : List ℕ) → area ≡ pre ++ endCode ∷ rest → step area (length pre) room ≡ given (stop end (length pre + 1))
-  at-end pre e =
-      step-behind area pre (endCode ∷ rest) room e short
-      ∙ ap (roomFor room) (walk-end (length pre) endCode rest refl)
-      ∙ stop-answered room end (length pre + 1)
+  at-end : (place : ℕ) → place ≤ length area → drop place area ≡ endCode ∷ rest → step area place room ≡ given (stop end (place + 1))
+  at-end place inside e =
+      rw (step-walks area place room short inside, e, walk-end place endCode rest refl) (stop-answered room end (place + 1))
 
-  list-in : (os : List Opt) (pre : List ℕ) (k : ℕ) → Valid os → length os ≤ k → area ≡ pre ++ (encodeAll os ++ rest)
-      → listIn k area room (length pre) ≡ record { options = os; ending = given (stop end (length pre + length (encodeAll os))) }
+  list-in : (os : List Opt) (place k : ℕ) → Valid os → length os ≤ k → place ≤ length area → drop place area ≡ encodeAll os ++ rest
+      → listIn k area room place ≡ record { options = os; ending = given (stop end (place + length (encodeAll os))) }
   unfolding encodeAll listIn onward
-  list-in [] pre zero v h e =
-      λ i. record { options = []; ending = at-end pre e i }
-  list-in [] pre (suc k) v h e =
-      ap (λ (a : Answer Found). onward a (listIn k area room)) (at-end pre e)
-  list-in (o ∷ os) pre zero v h e = absurd (not-suc-le-zero h)
-  list-in (o ∷ os) pre (suc k) v h e =
+  list-in [] place zero v h inside e = λ i. record { options = []; ending = at-end place inside e i }
+  list-in [] place (suc k) v h inside e = ap (λ (a : Answer Found). onward a (listIn k area room)) (at-end place inside e)
+  list-in (o ∷ os) place zero v h inside e = absurd (not-suc-le-zero h)
+  list-in (o ∷ os) place (suc k) v h inside e =
       let code : ℕ = o .code in
       let value : List ℕ = o .value in
       let here : List ℕ = encode mostPart code value in
       let there : List ℕ = encodeAll os ++ rest in
       let n : ℕ = length (pieces mostPart (drop mostPart value)) + 1 in
-      let to : ℕ = length pre + length here in
-      let a : area ≡ pre ++ (here ++ there) = e ∙ ap (λ (l : List ℕ). pre ++ l) (append-assoc here (encodeAll os) rest) in
+      let to : ℕ = place + length here in
+      let a : drop place area ≡ here ++ there = e ∙ append-assoc here (encodeAll os) rest in
       let other = next-other code os rest (v .0 .high) (v .1) (v .2) in
-      let w : step area (length pre) room ≡ given (option code value n to) =
-      step-behind area pre (here ++ there) room a short
-      ∙ ap (roomFor room)
-      (walk-value code there other (not-pad (v .0)) (not-end (v .0)) mostPart some-part (length pre) value (v .0 .some))
-      ∙ answered room code value n to (omega (arith, v .0 .most)) in
-      let p : to ≡ length (pre ++ here) = sym (length-append pre here) in
-      let q : length (pre ++ here) + length (encodeAll os) ≡ length pre + length (here ++ encodeAll os) =
-      omega (arith, length-append pre here, length-append here (encodeAll os)) in
-      let r : listIn k area room to ≡ record { options = os; ending = given (stop end (length pre + length (here ++ encodeAll os))) } =
-      ap (listIn k area room) p
-      ∙ list-in os (pre ++ here) k (v .2) (omega arith) (a ∙ sym (append-assoc pre here there))
-      ∙ (λ i. record { options = os; ending = given (stop end (q i)) }) in
+      let w : step area place room ≡ given (option code value n to) =
+      rw (
+        step-walks area place room short inside,
+        a,
+        walk-value code there other (not-pad (v .0)) (not-end (v .0)) mostPart some-part place value (v .0 .some),
+      )
+      (answered room code value n to (omega (arith, v .0 .most))) in
+      let more : drop to area ≡ there =
+      sym (drop-drop (length here) place area) ∙ ap (drop (length here)) a ∙ drop-append-seam here there in
+      let q : to + length (encodeAll os) ≡ place + length (here ++ encodeAll os) = omega (arith, length-append here (encodeAll os)) in
+      let l : to ≤ length area = omega (arith, ap length a, length-append here there, length-drop place area) in
+      let r = list-in os to k (v .2) (omega arith) l more ∙ (λ i. record { options = os; ending = given (stop end (q i)) }) in
       ap (λ (x : Answer Found). onward x (listIn k area room)) w ∙ (λ i. record { options = o ∷ r i .options; ending = r i .ending })
 
 -- a list has fewer options than bytes
@@ -118,13 +107,8 @@ length-list : (os : List Opt) → Valid os → length os < length (encodeAll os)
 unfolding encodeAll
 length-list [] v = omega arith
 length-list (o ∷ os) v =
-    let here : List ℕ = encode mostPart (o .code) (o .value) in
-    omega (
-      arith,
-      length-list os (v .2),
-      length-append here (encodeAll os),
-      ap length (encode-more mostPart some-part (o .code) (o .value) (v .0 .some)),
-    )
+    let some = ap length (encode-more mostPart some-part (o .code) (o .value) (v .0 .some)) in
+    omega (arith, length-list os (v .2), length-append (encode mostPart (o .code) (o .value)) (encodeAll os))
 
 -- the list's bytes, with any bytes behind them, are walked as the list, up to its End
 pub walks-all : (os : List Opt) (rest : List ℕ) (room : ℕ) → Valid os → mostValue ≤ room → length (encodeAll os ++ rest) ≤ mostBytes
@@ -133,7 +117,7 @@ unfolding listing
 walks-all os rest room v j h =
     let z : 0 + length (encodeAll os) ≡ length (encodeAll os) = omega arith in
     let area : List ℕ = encodeAll os ++ rest in
-    list-in area rest room h j os [] (length area) v (omega (arith, length-list os v, length-append (encodeAll os) rest)) refl
+    list-in area rest room h j os 0 (length area) v (omega (arith, length-list os v, length-append (encodeAll os) rest)) (omega arith) refl
     ∙ (λ i. record { options = os; ending = given (stop end (z i)) })
 
 -- so two lists of which one's bytes begin the other's are one

@@ -1,13 +1,15 @@
 -- The laws of `specs/Numbers.antt`: what each test says, and which check decides.
 -- Assumes nothing.
-use mathlib.Core.Path.{_≡_, refl, sym, _∙_, subst}
-use Prim.Native.Nat.{ℕ, _+_, _≤_, _<_}
+use mathlib.Core.Path.{_≡_, refl, sym, _∙_}
+use Prim.Native.Nat.{ℕ, zero, suc, _+_, _≤_, _<_}
 use mathlib.Core.Bool.{Bool, true, false}
 use mathlib.Core.List.{List, [], _∷_, _++_}
 use native.Mathlib.Omega.{arith}
 use lib.ListN.{length}
 use borrow.Author.Tests.{lt-ltb, le-ltb, ltb-false, eq-eqb, ne-eqb}
-use Rattle.rfc.specs.Numbers.{Answer, given, refused, needs, andThen, leastMessage, mostBytes, mostValue, padCode, endCode, tooLong, tooShort, pastEnd, noCode, tooMuch, noRoom, Check, check, checked}
+use Rattle.rfc.specs.Numbers.{Answer, given, refused, needs, andThen, leastMessage, mostBytes, mostValue, padCode, endCode, tooLong, tooShort, pastEnd, noCode, tooMuch, noRoom, Check, check, checked, firstRefusal}
+use Rattle.rfc.specs.Header.{messageChecks}
+use Rattle.rfc.specs.Typed.{codeChecks}
 
 -- the check of this number is the first whose test holds
 pub data Refuses : List Check → ℕ → Type 0 where
@@ -48,20 +50,45 @@ given-no a k e = let z : _≡_ {A = ℕ} 0 1 = cc in omega arith
 pub needs-no : {A : Type 0} (n k : ℕ) → _≡_ {A = Answer A} (needs n) (refused k) → ⊥
 needs-no n k e = let z : _≡_ {A = ℕ} 0 1 = cc in omega arith
 
--- back from a refusal to the check that gave it
-pub refuser : {A : Type 0} (cs : List Check) (a : A) (n : ℕ) → checked cs (given a) ≡ refused n → Refuses cs n
-unfolding checked
-refuser [] a n e = absurd (given-no a n e)
-refuser (check true k ∷ cs) a n e = let h : k ≡ n = cc in subst (λ (m : ℕ). Refuses (check true k ∷ cs) m) h (here refl)
-refuser (check false k ∷ cs) a n e = later refl (refuser cs a n e)
+-- the number of the first refusal, or 0
+pub first-is : {cs : List Check} {n : ℕ} → Refuses cs n → firstRefusal cs ≡ n
+unfolding firstRefusal
+first-is (here e) = rw e
+first-is (later e r) = rw e (first-is r)
 
--- some checks refuse by one number, and not where they are clear
-pub one-refuser : {cs : List Check} {j k : ℕ} → Refuses cs j → Refuses cs k → j ≡ k
-one-refuser {j = j} {k = k} r s =
-    let e : _≡_ {A = Answer ℕ} (refused j) (refused k) = sym (refuses (given 0) r) ∙ refuses (given 0) s in cc
+pub none-first : {cs : List Check} → Clear cs → firstRefusal cs ≡ 0
+unfolding firstRefusal
+none-first done = refl
+none-first (next e c) = rw e (none-first c)
 
-pub not-both : {cs : List Check} {k : ℕ} → Clear cs → Refuses cs k → ⊥
-not-both {k = k} c r = given-no {A = ℕ} 0 k (sym (clears (given 0) c) ∙ refuses (given 0) r)
+-- and back: a number above 0 is that of the check that refuses; 0 is none, where each check's number is above 0
+pub is-first : (cs : List Check) {n : ℕ} → n ≡ firstRefusal cs → 0 < n → Refuses cs n
+unfolding firstRefusal
+is-first [] e h = absurd (omega arith)
+is-first (check true k ∷ cs) e h = rw e (here refl)
+is-first (check false k ∷ cs) e h = later refl (is-first cs e h)
+
+abbrev Numbered : List Check → Type 0
+Numbered [] = Unit {0}
+Numbered (check test zero ∷ cs) = ⊥
+Numbered (check test (suc n) ∷ cs) = Numbered cs
+
+is-none : (cs : List Check) {n : ℕ} → Numbered cs → n ≡ firstRefusal cs → n ≤ 0 → Clear cs
+unfolding firstRefusal
+is-none [] p e h = done
+is-none (check test zero ∷ cs) p e h = absurd p
+is-none (check true (suc k) ∷ cs) p e h = absurd (omega arith)
+is-none (check false (suc k) ∷ cs) p e h = next refl (is-none cs p e h)
+
+-- so the checks of a message, and those of a code
+pub message-none : (message : List ℕ) {n : ℕ} → n ≡ firstRefusal (messageChecks message) → n ≤ 0 → Clear (messageChecks message)
+unfolding messageChecks
+message-none message = is-none _ tt
+
+pub code-none : (kind code : ℕ) (room : List ℕ) (place : ℕ) {n : ℕ} → n ≡ firstRefusal (codeChecks kind code room place) → n ≤ 0
+    → Clear (codeChecks kind code room place)
+unfolding codeChecks
+code-none kind code room place = is-none _ tt
 
 -- checks behind others
 pub refuses-front : {cs : List Check} {n : ℕ} (ds : List Check) → Refuses cs n → Refuses (cs ++ ds) n

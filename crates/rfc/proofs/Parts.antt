@@ -9,7 +9,7 @@ use lib.Seq.{take-append-seam, drop-append-seam}
 use Rattle.facts.specs.Pieces.{pieces}
 use Rattle.facts.proofs.Pieces.{pieces-more, flatten-pieces}
 use Rattle.rfc.specs.Numbers.{padCode, endCode}
-use Rattle.rfc.specs.Walk.{run, extend, further, joined, walk, option}
+use Rattle.rfc.specs.Walk.{run, extend, further, walk, option}
 use Rattle.rfc.specs.Writing.{partsOf, encode}
 use Rattle.rfc.proofs.Walk.{further-more, walk-code, behind-whole, joined-run}
 use Rattle.rfc.proofs.Writing.{length-parts}
@@ -31,9 +31,8 @@ module _ (code : ℕ) (tail : List ℕ) (other : further code tail ≡ run 0 [])
   unfolding partsOf flatten extend
   all-further [] = other
   all-further (p ∷ ps) =
-      further-more code code (length p) (p ++ partsOf code ps ++ tail) refl (fits p (partsOf code ps))
-      ∙ (λ i. extend (front p (partsOf code ps) i) (further code (back p (partsOf code ps) i)))
-      ∙ ap (extend p) (all-further ps)
+      rw (further-more code code (length p) (p ++ partsOf code ps ++ tail) refl (fits p (partsOf code ps)))
+      (rw (front p (partsOf code ps), back p (partsOf code ps), all-further ps))
 
   module _ (no-pad : code ≡ padCode → ⊥) (no-end : code ≡ endCode → ⊥) where
     pub walk-parts : (at : ℕ) (p : List ℕ) (ps : List (List ℕ))
@@ -46,9 +45,8 @@ module _ (code : ℕ) (tail : List ℕ) (other : further code tail ≡ run 0 [])
         omega (arith, length-parts code ps, length-append p (partsOf code ps)) in
         walk-code at code (length p ∷ more) no-pad no-end
         ∙ behind-whole code (at + 1) (length p) more (fits p (partsOf code ps))
-        ∙ (λ i. joined code (front p (partsOf code ps) i) behind-first (further code (back p (partsOf code ps) i)))
-        ∙ joined-run code p behind-first _ (length ps) (flatten ps) (all-further ps)
-        ∙ ap (option code (p ++ flatten ps) (length ps + 1)) e
+        ∙ rw (front p (partsOf code ps), back p (partsOf code ps), ← e)
+        (joined-run code p behind-first _ (length ps) (flatten ps) (all-further ps))
 
     -- a written value is walked as one option
     pub walk-value : (size : ℕ) → 0 < size → (at : ℕ) (v : List ℕ) → 1 ≤ length v
@@ -58,8 +56,7 @@ module _ (code : ℕ) (tail : List ℕ) (other : further code tail ≡ run 0 [])
     walk-value size some at v h =
         let rest : List (List ℕ) = pieces size (drop size v) in
         let e : pieces size v ≡ take size v ∷ rest = pieces-more size some v h in
-        let whole : take size v ++ flatten rest ≡ v =
-        ap (λ (l : List ℕ). take size v ++ l) (flatten-pieces size some (drop size v)) ∙ take-append-drop size v in
+        let whole : take size v ++ flatten rest ≡ v = rw (flatten-pieces size some (drop size v)) (take-append-drop size v) in
         ap (λ (ps : List (List ℕ)). walk at (partsOf code ps ++ tail)) e
         ∙ walk-parts at (take size v) rest
         ∙ (λ i. option code (whole i) (length rest + 1) (at + length (partsOf code (sym e i))))

@@ -19,8 +19,8 @@ use Rattle.facts.proofs.BigEndian.{length-digits, number-digits}
 use Rattle.facts.proofs.Over.{length-over, from-over, over-over}
 use Rattle.rfc.specs.Numbers.{given, mostBytes, mostValue, endCode, noCode}
 use Rattle.rfc.specs.Kinds.{kinds, kindOf, sizeOf, sizes}
-use Rattle.rfc.specs.Values.{Content, raw, natural, integer, truth, numbers, nothing, Value, widthOf, valueOf, exactly, multiple, Mode, plain, strict, rules, ruleFor, wrongLength, notText, unclear, read, valued, readOption}
-use Rattle.rfc.specs.Walk.{run, further, walk, option, roomFor, step}
+use Rattle.rfc.specs.Values.{Content, raw, natural, integer, truth, numbers, nothing, Value, widthOf, valueOf, Rule, exactly, multiple, breaks, Mode, plain, strict, rules, ruleFor, wrongLength, notText, unclear, read, valued, readOption}
+use Rattle.rfc.specs.Walk.{run, further, walk, option, step}
 use Rattle.rfc.specs.Writing.{partsOf, encode, answerTo, roomAfter, intoRoom, close}
 use Rattle.rfc.specs.Typed.{digitsOf, bytesIn, bytesOf, partSize, encodeKind, oddPairs, writeValue, Apart, Below, Seconds, Proper, bytes, address, addresses, pairs, byte, yesNo, u16, u16s, u32, i32, text, codes, nodeType, messageType, threeBytes, flag}
 use Rattle.rfc.proofs.Numbers.{no-pad, no-end}
@@ -40,25 +40,12 @@ record Reads (kind : ℕ) (v : List ℕ) (content : Content) : Type 0 where
   clear : unclear strict kind v ≡ false
   same : valueOf kind v ≡ of.value kind content
 
--- of exactly one element
-exact : (kind : ℕ) (v : List ℕ) (content : Content) → ruleFor strict kind ≡ exactly → unclear strict kind v ≡ false
-    → length v ≡ sizeOf kind → valueOf kind v ≡ of.value kind content → Reads kind v content
-exact kind v content rule clear len same =
-    record {
-      right = sym (length-by strict kind v exactly rule) ∙ ap not (eq-eqb (length v) (sizeOf kind) len);
-      clear = clear;
-      same = same;
-    }
-
--- of whole elements
-whole : (kind : ℕ) (v : List ℕ) (content : Content) → ruleFor strict kind ≡ multiple → unclear strict kind v ≡ false
-    → length v % sizeOf kind ≡ 0 → valueOf kind v ≡ of.value kind content → Reads kind v content
-whole kind v content rule clear rest same =
-    record {
-      right = sym (length-by strict kind v multiple rule) ∙ ap not (eq-eqb (length v % sizeOf kind) 0 rest);
-      clear = clear;
-      same = same;
-    }
+-- by the rule for their length
+taken : (kind : ℕ) (v : List ℕ) (content : Content) (rule : Rule) → ruleFor strict kind ≡ rule
+    → breaks rule (sizeOf kind) (length v) ≡ false → unclear strict kind v ≡ false → valueOf kind v ≡ of.value kind content
+    → Reads kind v content
+taken kind v content rule is right clear same =
+    record { right = sym (length-by strict kind v rule is) ∙ right; clear = clear; same = same }
 
 -- a kind that holds one number, as it is or made into something else
 one : (kind : ℕ) (make : ℕ → Content) → ruleFor strict kind ≡ exactly → ((v : List ℕ) → unclear strict kind v ≡ false)
@@ -67,7 +54,7 @@ one : (kind : ℕ) (make : ℕ → Content) → ruleFor strict kind ≡ exactly 
 one kind make rule clear holds n h =
     let v : List ℕ = digits (sizeOf kind) n in
     let len : length v ≡ sizeOf kind = length-digits (sizeOf kind) n in
-    exact kind v (make n) rule (clear v) len
+    taken kind v (make n) exactly rule (ap not (eq-eqb _ _ len)) (clear v)
     (holds v
     ∙ ap (λ (l : List ℕ). of.value kind (make (number l))) (take-all (sizeOf kind) v (omega arith))
     ∙ ap (λ (k : ℕ). of.value kind (make k)) (number-digits (sizeOf kind) n h))
@@ -77,20 +64,20 @@ many : {kind width n : ℕ} → of.Listed kind width n → ruleFor strict kind �
     → (l : List ℕ) → Below (256 ^ width) l → length (digitsOf width l) % sizeOf kind ≡ 0 → Reads kind (digitsOf width l) (numbers l)
 many {kind} {width} k rule clear l b rest =
     let v : List ℕ = digitsOf width l in
-    whole kind v (numbers l) rule (clear v) rest
+    taken kind v (numbers l) multiple rule (ap not (eq-eqb _ 0 rest)) (clear v)
     (of.listed-value v k ∙ ap (λ (m : List ℕ). of.value kind (numbers m)) (numbers-back width (listed-size k .1) l b))
 
 -- a value's bytes read as it; of pairs, where they are whole ones
 reads : (kind : ℕ) (content : Content) → Proper kind content → oddPairs kind (bytesIn kind content) ≡ false
     → Reads kind (bytesIn kind content) content
 unfolding sizeOf sizes ruleFor rules lookup within widthOf unclear oddPairs
-reads kind content (bytes v) even = whole 0 v (raw v) refl refl (mod-one (length v)) (of.raw-value v)
+reads kind content (bytes v) even = taken 0 v (raw v) multiple refl (ap not (eq-eqb _ 0 (mod-one (length v)))) refl (of.raw-value v)
 reads kind content (address n h) even = one 1 natural refl (λ v. refl) (λ v. of.scalar-value v of.address) n h
 reads kind content (addresses l b) even = many of.addresses refl (λ v. refl) l b (digits-whole 4 l)
 reads kind content (pairs l b) even = many of.pairs refl (λ v. refl) l b (eqb-true _ 0 (not-false _ even))
 reads kind content (byte n h) even = one 4 natural refl (λ v. refl) (λ v. of.scalar-value v of.byte) n h
-reads kind content (yesNo true) even = exact 5 _ (truth true) refl refl refl (of.scalar-value _ of.yesNo)
-reads kind content (yesNo false) even = exact 5 _ (truth false) refl refl refl (of.scalar-value _ of.yesNo)
+reads kind content (yesNo true) even = taken 5 _ (truth true) exactly refl refl refl (of.scalar-value _ of.yesNo)
+reads kind content (yesNo false) even = taken 5 _ (truth false) exactly refl refl refl (of.scalar-value _ of.yesNo)
 reads kind content (u16 n h) even = one 6 natural refl (λ v. refl) (λ v. of.scalar-value v of.u16) n h
 reads kind content (u16s l b) even = many of.u16s refl (λ v. refl) l b (digits-whole 2 l)
 reads kind content (u32 n h) even = one 8 natural refl (λ v. refl) (λ v. of.scalar-value v of.u32) n h
@@ -98,14 +85,12 @@ reads kind content (i32 z h) even =
     let n : ℕ = unsigned z in
     subst (λ (y : ℤ). Reads 9 (digits 4 n) (integer y)) (seconds-signed z h)
     (one 9 (λ (k : ℕ). integer (signed k)) refl (λ v. refl) (λ v. of.scalar-value v of.i32) n (seconds-below z h))
-reads kind content (text v) even = whole 10 v (raw v) refl refl (mod-one (length v)) (of.text-value v)
+reads kind content (text v) even = taken 10 v (raw v) multiple refl (ap not (eq-eqb _ 0 (mod-one (length v)))) refl (of.text-value v)
 reads kind content (codes l b) even = many of.codes refl (λ v. refl) l b (digits-whole 1 l)
 reads kind content (nodeType n h) even = one 12 natural refl (λ v. refl) (λ v. of.scalar-value v of.nodeType) n h
 reads kind content (messageType n h) even = one 13 natural refl (λ v. refl) (λ v. of.scalar-value v of.messageType) n h
-reads kind content (threeBytes a b c) even =
-    let v : List ℕ = a ∷ b ∷ c ∷ [] in
-    exact 14 v (raw v) refl refl refl (of.scalar-value v of.threeBytes)
-reads kind content flag even = exact 15 [] nothing refl refl refl (of.flag-value [])
+reads kind content (threeBytes a b c) even = taken 14 _ (raw (a ∷ b ∷ c ∷ [])) exactly refl refl refl (of.scalar-value _ of.threeBytes)
+reads kind content flag even = taken 15 [] nothing exactly refl refl refl (of.flag-value [])
 
 -- so they are read, to a code of the kind: what strict reading accepts, plain reading reads alike
 value-back : (mode : Mode) (code : ℕ) (x : Value) → Proper (x .kind) (x .content) → noCode code ≡ false → kindOf code ≡ x .kind
@@ -139,24 +124,15 @@ module _ (kind code : ℕ) (v tail : List ℕ) (below-16 : kind < 16) (right : w
           → (n : ℕ) × (walk at (encodeKind kind code v ++ tail) ≡ option code v n (at + length (encodeKind kind code v)))
       go (yes p) =
           let is : kind ≡ 15 = omega arith in
-          let e : encodeKind kind code v ≡ partsOf code ([] ∷ []) =
-          ap (λ (k : ℕ). encodeKind k code v) is ∙ encode-flag code v in
-          let none : v ≡ [] = flag-empty v (subst (λ (k : ℕ). wrongLength strict k v ≡ false) is right) in (
-            1,
-            ap (λ (l : List ℕ). walk at (l ++ tail)) e
-                ∙ walk-parts code tail other (no-pad code some) (no-end code some) at [] []
-                ∙ (λ i. option code (sym none i) 1 (at + length (sym e i))),
-          )
+          let e : encodeKind kind code v ≡ partsOf code ([] ∷ []) = rw is (encode-flag code v) in
+          let none : v ≡ [] = flag-empty v (rw is at right) in
+          (1, rw (e, none) (walk-parts code tail other (no-pad code some) (no-end code some) at [] []))
       go (no p) =
           let e : encodeKind kind code v ≡ encode (partSize kind) code v = encode-kind kind code v (λ z. omega arith) in
           let size : 0 < partSize kind = some-part kind (omega arith) in
           let value : 0 < length v = some-value (partSize kind) size code v (omega (arith, ap length e)) in
-          let n : ℕ = length (pieces (partSize kind) (drop (partSize kind) v)) + 1 in (
-            n,
-            ap (λ (l : List ℕ). walk at (l ++ tail)) e
-                ∙ walk-value code tail other (no-pad code some) (no-end code some) (partSize kind) size at v value
-                ∙ ap (λ (l : List ℕ). option code v n (at + length l)) (sym e),
-          )
+          let n : ℕ = length (pieces (partSize kind) (drop (partSize kind) v)) + 1 in
+          (n, rw e (walk-value code tail other (no-pad code some) (no-end code some) (partSize kind) size at v value))
 
 apart-none : (code : ℕ) (tail : List ℕ) → Apart code tail → further code tail ≡ run 0 []
 apart-none code [] u = further-none code
@@ -178,13 +154,14 @@ module _ {code : ℕ} {x : Value} {room : List ℕ} {place to : ℕ} (w : Writte
       let v : List ℕ = bytesOf x in
       let right = reads (x .kind) (x .content) proper (w .even) .right in
       let found = walk-kind (x .kind) code v tail (below-16 w) right (w .some) other place (omega (arith, w .ends)) in
-      ap (readOption mode)
-      (step-walks area place join (omega (arith, w .short)) (omega (arith, w .inside))
-      ∙ ap (λ (l : List ℕ). roomFor join (walk place l)) from
-      ∙ ap (roomFor join) (found .1)
-      ∙ answered join code v (found .0) (place + length here) (omega (arith, w .most)))
-      ∙ value-given mode code v (found .0) (place + length here) x
-      (value-back mode code x proper (w .some) (w .is) (omega (arith, w .most)) (w .even) (w .utf))
+      rw (
+        step-walks area place join (omega (arith, w .short)) (omega (arith, w .inside)),
+        from,
+        found .1,
+        answered join code v (found .0) (place + length here) (omega (arith, w .most)),
+      )
+      (value-given mode code v (found .0) (place + length here) x
+      (value-back mode code x proper (w .some) (w .is) (omega (arith, w .most)) (w .even) (w .utf)))
       ∙ ap (λ (k : ℕ). given (valued code x k)) (sym (w .ends))
 
   -- the room that it leaves, with no further part of the code behind

@@ -5,7 +5,6 @@ use Prim.Native.Nat.{ℕ, suc, _≤_, _<_}
 use mathlib.Core.Bool.{Bool, true, false, cond, not}
 use mathlib.Core.List.{List, [], _∷_}
 use native.Mathlib.Omega.{arith}
-use native.Mathlib.Decide.{decLe}
 use borrow.Author.Tests.{le-ltb, eqb-true, not-false, eq-eqb, ne-eqb}
 use lib.Dec.{ltb}
 use lib.ListN.{length, getD, List·getD-eq-default}
@@ -27,15 +26,13 @@ length-by mode kind v rule e = ap (λ (r : Rule). breaks r (sizeOf kind) (length
 -- where a length has to be a multiple of a size, the size is not 0: only the flag's is
 pub multiple-of-some : (mode : Mode) (kind : ℕ) → kind < 16 → ruleFor mode kind ≡ multiple → 0 < sizeOf kind
 unfolding ruleFor rules lookup within
-multiple-of-some mode kind h e = go (decLe 15 kind)
+multiple-of-some mode kind h e =
+    let other : kind ≡ 15 → ⊥ = λ k. flag mode (ap (ruleFor mode) (sym k) ∙ e) in
+    size-some kind (omega (arith, other))
   where
     flag : (m : Mode) → ruleFor m 15 ≡ multiple → ⊥
     flag plain f = let z : _≡_ {A = ℕ} 0 1 = cc in omega arith
     flag strict f = let z : _≡_ {A = ℕ} 0 1 = cc in omega arith
-
-    go : Dec (15 ≤ kind) → 0 < sizeOf kind
-    go (yes p) = let k : 15 ≡ kind = omega arith in absurd (flag mode (ap (ruleFor mode) k ∙ e))
-    go (no p) = size-some kind (omega arith)
 
 -- a length that strict reading accepts, plain reading accepts
 strict-length : (kind : ℕ) (v : List ℕ) → wrongLength strict kind v ≡ false → wrongLength plain kind v ≡ false
@@ -105,38 +102,25 @@ module _ (mode : Mode) (code : ℕ) (v : List ℕ) where
 
     -- the kind, by whatever name it goes
     module _ (some : noCode code ≡ false) {kind : ℕ} (is : kind ≡ kindOf code) where
-      same : (test : ℕ → Bool) (t : Bool) → test kind ≡ t → test (kindOf code) ≡ t
-      same test t e = ap test (sym is) ∙ e
-
       pub read-10 : wrongLength mode kind v ≡ true → read mode code v ≡ refused 10
       unfolding read readChecks
-      read-10 wrong = refuses _ (later (not-long v short) (later some (here (same (λ k. wrongLength mode k v) true wrong))))
+      read-10 wrong = refuses _ (later (not-long v short) (later some (here (rw is at wrong))))
 
       module _ (right : wrongLength mode kind v ≡ false) where
-        right-is : wrongLength mode (kindOf code) v ≡ false
-        right-is = same (λ k. wrongLength mode k v) false right
-
         pub read-11 : notText kind v ≡ true → read mode code v ≡ refused 11
         unfolding read readChecks
-        read-11 wrong =
-            refuses _ (later (not-long v short) (later some (later right-is (here (same (λ k. notText k v) true wrong)))))
+        read-11 wrong = refuses _ (later (not-long v short) (later some (later (rw is at right) (here (rw is at wrong)))))
 
         module _ (text : notText kind v ≡ false) where
-          text-is : notText (kindOf code) v ≡ false
-          text-is = same (λ k. notText k v) false text
-
           pub read-14 : unclear mode kind v ≡ true → read mode code v ≡ refused 14
           unfolding read readChecks
           read-14 wrong =
-              refuses _
-              (later (not-long v short) (later some (later right-is (later text-is (here (same (λ k. unclear mode k v) true wrong))))))
+              refuses _ (later (not-long v short) (later some (later (rw is at right) (later (rw is at text) (here (rw is at wrong))))))
 
           pub read-given : unclear mode kind v ≡ false → read mode code v ≡ given (valueOf kind v)
           unfolding read readChecks
           read-given clear =
-              clears _
-              (next (not-long v short)
-              (next some (next right-is (next text-is (next (same (λ k. unclear mode k v) false clear) done)))))
+              clears _ (next (not-long v short) (next some (next (rw is at right) (next (rw is at text) (next (rw is at clear) done)))))
               ∙ ap (λ (k : ℕ). given (valueOf k v)) (sym is)
 
 -- what was read has a right length for its kind

@@ -11,11 +11,10 @@ use Rattle.facts.specs.BigEndian.{digits}
 use Rattle.facts.specs.Over.{over}
 use Rattle.facts.proofs.Least.{take-least}
 use Rattle.rfc.specs.Numbers.{given, refused, mostBytes, mostValue, mostPart}
-use Rattle.rfc.specs.Writing.{encode, writeChecks, answerTo, roomAfter}
+use Rattle.rfc.specs.Writing.{encode, Write, writeChecks, answerTo, roomAfter}
 use Rattle.rfc.specs.Routes.{Route, routesCode, mostWidth, significant, routeBytes, routesBytes, tooWide, writeRoutes}
-use Rattle.rfc.proofs.Numbers.{here, later, refuses, done, next, clears}
-use Rattle.rfc.proofs.Numbers.{long, not-long, past, not-past, much, not-much, full, not-full}
-use Rattle.rfc.proofs.Writing.{given-left}
+use Rattle.rfc.proofs.Numbers.{here, later, done, next, long, not-long, past, much, not-much, full, not-full}
+use Rattle.rfc.proofs.Writing.{write-refused, write-given, given-left, room-behind, room-clear}
 
 pub significant-is : (width : ℕ) → significant width ≡ (width + 7) / 8
 unfolding significant
@@ -61,45 +60,45 @@ module _ (rs : List Route) (room : List ℕ) (place : ℕ) where
   abbrev value : List ℕ
   value = routesBytes rs
 
-  pub routes-2 : mostBytes < length room → answerTo (writeRoutes rs room place) room place ≡ refused 2
-  unfolding answerTo writeRoutes writeChecks
-  routes-2 a = refuses _ (here (long room a))
+  abbrev parts : List ℕ
+  parts = encode mostPart routesCode value
+
+  abbrev write : Write
+  write = writeRoutes rs room place
+
+  pub routes-2 : mostBytes < length room → answerTo write room place ≡ refused 2
+  unfolding writeRoutes writeChecks
+  routes-2 a = write-refused write room place (here (long room a))
 
   module _ (a : length room ≤ mostBytes) where
-    pub routes-4 : length room < place → answerTo (writeRoutes rs room place) room place ≡ refused 4
-    unfolding answerTo writeRoutes writeChecks
-    routes-4 b = refuses _ (later (not-long room a) (here (past place room b)))
+    pub routes-4 : length room < place → answerTo write room place ≡ refused 4
+    unfolding writeRoutes writeChecks
+    routes-4 b = write-refused write room place (later (not-long room a) (here (past place room b)))
 
     module _ (b : place ≤ length room) where
-      pub routes-12 : tooWide rs ≡ true → answerTo (writeRoutes rs room place) room place ≡ refused 12
-      unfolding answerTo writeRoutes writeChecks
-      routes-12 c = refuses _ (later (not-long room a) (later (not-past place room b) (here c)))
+      pub routes-12 : tooWide rs ≡ true → answerTo write room place ≡ refused 12
+      unfolding writeRoutes writeChecks
+      routes-12 c = write-refused write room place (room-behind room place a b (here c))
 
       module _ (c : tooWide rs ≡ false) where
-        pub routes-7 : mostValue < length value → answerTo (writeRoutes rs room place) room place ≡ refused 7
-        unfolding answerTo writeRoutes writeChecks
-        routes-7 d = refuses _ (later (not-long room a) (later (not-past place room b) (later c (here (much value d)))))
+        pub routes-7 : mostValue < length value → answerTo write room place ≡ refused 7
+        unfolding writeRoutes writeChecks
+        routes-7 d = write-refused write room place (room-behind room place a b (later c (here (much value d))))
 
         module _ (d : length value ≤ mostValue) where
-          pub routes-8 : length room < place + length (encode mostPart routesCode value)
-              → answerTo (writeRoutes rs room place) room place ≡ refused 8
-          unfolding answerTo writeRoutes writeChecks
+          pub routes-8 : length room < place + length parts → answerTo write room place ≡ refused 8
+          unfolding writeRoutes writeChecks
           routes-8 e =
-              refuses _
-              (later (not-long room a)
-              (later (not-past place room b)
-              (later c (later (not-much value d) (here (full room place (encode mostPart routesCode value) e))))))
+              write-refused write room place
+              (room-behind room place a b (later c (later (not-much value d) (here (full room place parts e)))))
 
-          module _ (e : place + length (encode mostPart routesCode value) ≤ length room) where
-            pub routes-given : answerTo (writeRoutes rs room place) room place
-                ≡ given (place + length (encode mostPart routesCode value))
-            unfolding answerTo writeRoutes writeChecks
+          module _ (e : place + length parts ≤ length room) where
+            pub routes-given : answerTo write room place ≡ given (place + length parts)
+            unfolding writeRoutes writeChecks
             routes-given =
-                clears _
-                (next (not-long room a)
-                (next (not-past place room b)
-                (next c (next (not-much value d) (next (not-full room place (encode mostPart routesCode value) e) done)))))
+                write-given write room place
+                (room-clear room place a b (next c (next (not-much value d) (next (not-full room place parts e) done))))
 
-            pub routes-left : roomAfter (writeRoutes rs room place) room place ≡ over room place (encode mostPart routesCode value)
+            pub routes-left : roomAfter write room place ≡ over room place parts
             unfolding writeRoutes
-            routes-left = given-left (writeRoutes rs room place) room place _ routes-given
+            routes-left = given-left write room place _ routes-given

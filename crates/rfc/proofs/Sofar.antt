@@ -1,16 +1,17 @@
 -- A value written part by part, in parts of any size: what stands in the room after each part.
 -- Assumes nothing.
-use mathlib.Core.Path.{_≡_, refl, sym, ap, _∙_}
-use Prim.Native.Nat.{ℕ, _+_, _-_, _≤_, _<_, min}
+use mathlib.Core.Path.{_≡_, refl, sym, ap, _∙_, subst}
+use Prim.Native.Nat.{ℕ, _+_, _-_, _*_, _≤_, _<_, min}
 use native.Mathlib.Omega.{arith}
 use mathlib.Core.List.{List, [], _∷_, _++_}
-use lib.ListN.{length, take, drop, set, length-drop, length-append, drop-of-length-le}
-use lib.Seq.{length-take-le, drop-drop, take-at, drop-at, take-length}
+use lib.ListN.{length, take, drop, set, length-drop, drop-of-length-le}
+use lib.Seq.{length-take-le, drop-drop, take-at, drop-at}
 use Rattle.facts.specs.Over.{over}
-use Rattle.facts.proofs.Over.{over-over, over-next, over-nil}
+use Rattle.facts.proofs.Over.{over-over}
+use Rattle.facts.proofs.Laid.{Laid, laid-none, laid-more, laid-all}
 use Rattle.facts.proofs.Cells.{stores-over}
 use Rattle.rfc.specs.Writing.{encode}
-use Rattle.rfc.proofs.Writing.{encode-none, encode-next}
+use Rattle.rfc.proofs.Writing.{encode-none, encode-next, encode-takes}
 
 -- two stores and the bytes behind them are the write of a part
 pub part-over : (room bytes : List ℕ) (at code n : ℕ) → at + (2 + length bytes) ≤ length room
@@ -23,78 +24,55 @@ part-over room bytes at code n h =
 abbrev pub part : ℕ → List ℕ → ℕ → ℕ → List ℕ
 part code v from n = code ∷ n ∷ take n (drop from v)
 
--- of a value in parts of so many bytes, `done` bytes are written, and they hold the first `from` bytes of the value
+-- of a value in parts of so many bytes, `done` bytes are written, and they hold the first `from` bytes of the value; what is left of it is
+-- to be written, with a head where there is some
 pub record Sofar (size : ℕ) (room₀ room v : List ℕ) (place code done from : ℕ) : Type 0 where
+  pub some : 0 < size
+  pub laid : Laid room₀ room (encode size code v) place done
   pub within : from ≤ length v
-  pub not-more : done ≤ length (encode size code v)
-  pub keeps : length room ≡ length room₀
-  pub put : room ≡ over room₀ place (take done (encode size code v))
   pub left : drop done (encode size code v) ≡ encode size code (drop from v)
+  pub enough : done + (length v - from + 2 * min 1 (length v - from)) ≤ length (encode size code v)
 
--- parts of so many bytes
-module _ (size : ℕ) (some : 0 < size) where
-  -- the next part of what is left of a value
-  next-part : (v : List ℕ) (code from n : ℕ) → from < length v → n ≡ min size (length v - from)
-      → encode size code (drop from v) ≡ part code v from n ++ encode size code (drop (from + n) v)
-  next-part v code from n h e =
-      let rest : List ℕ = drop from v in
-      let l : length rest ≡ length v - from = length-drop from v in
-      encode-next size some code rest n (omega arith) (e ∙ ap (min size) (sym l))
-      ∙ ap (λ (r : List ℕ). part code v from n ++ encode size code r) (drop-drop n from v)
+module _ {size : ℕ} (some : 0 < size) {room₀ room v : List ℕ} {place code done from : ℕ} where
+  sofar : Laid room₀ room (encode size code v) place done → from ≤ length v
+      → drop done (encode size code v) ≡ encode size code (drop from v) → Sofar size room₀ room v place code done from
+  sofar l h e =
+      let bytes = encode-takes size some code (drop from v) in
+      let there = length-drop done (encode size code v) in
+      record { some = some; laid = l; within = h; left = e; enough = omega (arith, l .within, length-drop from v, ap length e) }
 
-  pub sofar-none : {room v : List ℕ} {place code : ℕ} → Sofar size room room v place code 0 0
-  sofar-none {room} {v} {place} {code} =
-      record { within = omega arith; not-more = omega arith; keeps = refl; put = sym (over-nil room place); left = refl }
+pub sofar-none : {size : ℕ} → 0 < size → {room v : List ℕ} {place code : ℕ} → place + length (encode size code v) ≤ length room
+    → Sofar size room room v place code 0 0
+sofar-none some h = sofar some (laid-none _ _ _ h) (omega arith) refl
 
+module _ {size : ℕ} {room₀ room v : List ℕ} {place code done from : ℕ} (s : Sofar size room₀ room v place code done from) where
   -- one part more, of n bytes
-  module _
-      {room₀ room v : List ℕ} {place code done from n : ℕ}
-      (s : Sofar size room₀ room v place code done from) (h : from < length v) (e : n ≡ min size (length v - from)) where
-    part-length : length (part code v from n) ≡ 2 + n
-    part-length = let l = length-take-le n (drop from v) (omega (arith, length-drop from v)) in omega arith
-
-    split : drop done (encode size code v) ≡ part code v from n ++ encode size code (drop (from + n) v)
-    split = s .left ∙ next-part v code from n h e
-
-    -- the next part is among the bytes that are to be written
-    pub part-fits : done + (2 + n) ≤ length (encode size code v)
-    part-fits =
-        omega (
-          arith,
-          s,
-          part-length,
-          length-append (part code v from n) (encode size code (drop (from + n) v)),
-          ap length split,
-          length-drop done (encode size code v),
-        )
-
-    pub sofar-more : (room′ : List ℕ) → place + length (encode size code v) ≤ length room₀ → length room′ ≡ length room
-        → room′ ≡ over room (place + done) (part code v from n) → Sofar size room₀ room′ v place code (done + 2 + n) (from + n)
-    sofar-more room′ g k w =
-        let all : List ℕ = encode size code v in
-        let p : List ℕ = part code v from n in
-        let a : done + length p ≡ done + 2 + n = omega (arith, part-length) in
-        record {
-          within = omega arith;
-          not-more = omega (arith, part-fits);
-          keeps = k ∙ s .keeps;
-          put =
-              w ∙ ap (λ (x : List ℕ). over x (place + done) p) (s .put)
-              ∙ over-next room₀ place all p done (omega (arith, part-fits)) (s .not-more)
-              (ap (take (length p)) split ∙ take-at p _ (length p) refl)
-              ∙ ap (λ (m : ℕ). over room₀ place (take m all)) a;
-          left =
-              ap (λ (m : ℕ). drop m all) (sym a)
-              ∙ sym (drop-drop (length p) done all)
-              ∙ ap (drop (length p)) split
-              ∙ drop-at p _ (length p) refl;
-        }
+  pub sofar-more : {n : ℕ} → from < length v → n ≡ min size (length v - from)
+      → {room′ : List ℕ} → room′ ≡ over room (place + done) (part code v from n)
+      → Sofar size room₀ room′ v place code (done + 2 + n) (from + n)
+  sofar-more {n} h e {room′} w =
+      let all : List ℕ = encode size code v in
+      let p : List ℕ = part code v from n in
+      let l : length (drop from v) ≡ length v - from = length-drop from v in
+      let two : length p ≡ 2 + n = let t = length-take-le n (drop from v) (omega (arith, s .some)) in omega arith in
+      let a : done + (2 + n) ≡ done + 2 + n = omega arith in
+      let split : drop done all ≡ p ++ encode size code (drop (from + n) v) =
+      s .left
+      ∙ encode-next size (s .some) code (drop from v) n (omega arith) (e ∙ ap (min size) (sym l))
+      ∙ ap (λ (r : List ℕ). p ++ encode size code r) (drop-drop n from v) in
+      sofar (s .some)
+      (subst (λ (m : ℕ). Laid room₀ room′ all place m) a
+      (laid-more (s .laid) (2 + n) (omega (arith, s))
+      (w ∙ ap (over room (place + done)) (sym (ap (take (2 + n)) split ∙ take-at p _ (2 + n) two)))))
+      (omega arith)
+      (ap (λ (m : ℕ). drop m all) (sym a)
+      ∙ sym (drop-drop (2 + n) done all)
+      ∙ ap (drop (2 + n)) split
+      ∙ drop-at p _ (2 + n) two)
 
   -- at the end
-  pub sofar-all : {room₀ room v : List ℕ} {place code done from : ℕ} → Sofar size room₀ room v place code done from → length v ≤ from
-      → room ≡ over room₀ place (encode size code v)
-  sofar-all {room₀} {room} {v} {place} {code} {done} {from} s h =
+  pub sofar-all : length v ≤ from → room ≡ over room₀ place (encode size code v)
+  sofar-all h =
       let all : List ℕ = encode size code v in
-      let z : drop done all ≡ [] = s .left ∙ ap (encode size code) (drop-of-length-le v h) ∙ encode-none size some code in
-      let e : done ≡ length all = omega (arith, length-drop done all, ap length z, s .not-more) in
-      s .put ∙ ap (λ (k : ℕ). over room₀ place (take k all)) e ∙ ap (over room₀ place) (take-length all)
+      let z : drop done all ≡ [] = s .left ∙ ap (encode size code) (drop-of-length-le v h) ∙ encode-none size (s .some) code in
+      laid-all (s .laid) (omega (arith, length-drop done all, ap length z))

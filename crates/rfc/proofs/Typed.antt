@@ -4,29 +4,28 @@ use mathlib.Core.Path.{_≡_, refl, sym, ap, _∙_}
 use Prim.Native.Nat.{ℕ, zero, suc, _+_, _*_, _/_, _%_, _^_, _≤_, _<_}
 use mathlib.Core.Bool.{Bool, true, false, not, _&&_}
 use native.Mathlib.Omega.{arith}
-use native.Mathlib.Nat.{mul-suc}
+use native.Mathlib.Nat.{mul-suc, mul-zero}
 use native.Mathlib.Decide.{decLe}
-use mathlib.Core.List.{List, [], _∷_, _++_, flatten, append-nil}
+use mathlib.Core.List.{List, [], _∷_, _++_, flatten}
 use borrow.Author.Tests.{ltb-true, leb-true, eqb-true, eq-eqb, ne-eqb}
-use lib.Arith.{mod-mul}
-use lib.Dec.{lit<, eqb, leb, ltb}
+use lib.Dec.{eqb, leb, ltb}
 use lib.ListN.{length, take, drop, getD, length-append}
-use lib.Seq.{drop-cons, take-nil, drop-nil, take-append-add, drop-append-add}
+use lib.Seq.{drop-cons, take-nil, drop-nil, take-append-add, drop-append-add, take-at}
 use Rattle.facts.specs.BigEndian.{digits}
 use Rattle.facts.proofs.BigEndian.{Bytes, length-digits}
 use Rattle.facts.proofs.Table.{each}
-use Rattle.facts.specs.Over.{over}
 use Rattle.facts.specs.Ranges.{lookup, within}
-use Rattle.rfc.specs.Numbers.{refused, given, mostBytes, mostValue, mostPart, padCode, endCode, checked}
+use Rattle.rfc.specs.Numbers.{refused, mostBytes, mostValue, mostPart, padCode, endCode, tooLong, pastEnd, noCode, check}
 use Rattle.rfc.specs.Kinds.{kindOf, sizes, sizeOf}
 use Rattle.rfc.specs.Values.{Content, numbers, widthOf, notText}
 use Rattle.rfc.specs.Writing.{encode, Write, writeChecks, answerTo, roomAfter, writeSlice, writeBytes}
 use Rattle.rfc.specs.Typed.{digitsOf, bytesIn, partSize, encodeKind, otherKind, oddPairs, codeChecks, valueChecks}
 use Rattle.rfc.specs.Typed.{writeKind, writeValue}
-use Rattle.rfc.proofs.Numbers.{Refuses, here, later, refuses-front, refuses-behind, Clear, done, next, clear-both, long, not-long, not-too-long, past, not-past, place-within, pad-code, end-code, a-code, much, not-much, full, not-full}
+use Rattle.rfc.proofs.Numbers.{Refuses, here, later, refuses-front, refuses-behind, Clear, done, next, clear-both, clear-last, long, not-long, not-too-long, past, place-within, pad-code, end-code, a-code, much, not-much}
+use Rattle.rfc.proofs.Alike.{Alike, none, both, passes-right, answers-alike, left-alike, clear-slice}
 use Rattle.rfc.proofs.Codes.{size-some}
 use Rattle.rfc.proofs.Values.{value, Scalar, scalar-kind, Listed, addresses, pairs, u16s, codes}
-use Rattle.rfc.proofs.Writing.{encode-once, write-refused, write-given, given-left}
+use Rattle.rfc.proofs.Writing.{encode-once, write-refused, room-behind, room-clear}
 
 -- the bytes of numbers, each of so many
 module _ (width : ℕ) where
@@ -45,21 +44,15 @@ module _ (width : ℕ) where
   -- those of the first n numbers, and those behind them
   take-digits : (n : ℕ) (l : List ℕ) → take (width * n) (digitsOf width l) ≡ digitsOf width (take n l)
   unfolding digitsOf flatten
-  take-digits zero l = ap (λ (k : ℕ). take k (digitsOf width l)) (let z : width * 0 ≡ 0 = omega arith in z)
+  take-digits zero l = rw mul-zero
   take-digits (suc n) [] = take-nil (width * suc n)
-  take-digits (suc n) (x ∷ l) =
-      ap (λ (k : ℕ). take k (digits width x ++ digitsOf width l)) (first x n)
-      ∙ take-append-add (digits width x) (digitsOf width l) (width * n)
-      ∙ ap (λ (r : List ℕ). digits width x ++ r) (take-digits n l)
+  take-digits (suc n) (x ∷ l) = rw (first x n, take-append-add, take-digits n l)
 
   drop-digits : (n : ℕ) (l : List ℕ) → drop (width * n) (digitsOf width l) ≡ digitsOf width (drop n l)
   unfolding digitsOf flatten
-  drop-digits zero l = ap (λ (k : ℕ). drop k (digitsOf width l)) (let z : width * 0 ≡ 0 = omega arith in z)
+  drop-digits zero l = rw mul-zero
   drop-digits (suc n) [] = drop-nil (width * suc n)
-  drop-digits (suc n) (x ∷ l) =
-      ap (λ (k : ℕ). drop k (digits width x ++ digitsOf width l)) (first x n)
-      ∙ drop-append-add (digits width x) (digitsOf width l) (width * n)
-      ∙ drop-digits n l
+  drop-digits (suc n) (x ∷ l) = rw (first x n, drop-append-add) (drop-digits n l)
 
   -- the bytes of n numbers from one on
   pub digits-part : (from n : ℕ) (l : List ℕ)
@@ -69,12 +62,7 @@ module _ (width : ℕ) where
   -- those of one number
   pub digits-at : (i : ℕ) (l : List ℕ) → i < length l → take width (drop (width * i) (digitsOf width l)) ≡ digits width (getD l i 0)
   unfolding digitsOf flatten
-  digits-at i l h =
-      let w : width ≡ width * 1 = omega arith in
-      ap (λ (k : ℕ). take k (drop (width * i) (digitsOf width l))) w
-      ∙ digits-part i 1 l
-      ∙ ap (λ (r : List ℕ). digitsOf width (take 1 r)) (drop-cons l i 0 h)
-      ∙ append-nil (digits width (getD l i 0))
+  digits-at i l h = rw (drop-digits i l, drop-cons l i 0 h) (take-at (digits width (getD l i 0)) _ width (length-digits width (getD l i 0)))
 
 -- the most bytes of a part: whole elements, no more than 255 bytes, and one element more would pass 255
 pub whole-elements : (kind : ℕ) → kind < 15
@@ -144,21 +132,16 @@ unfolding oddPairs
 no-pairs kind v n = rw (ne-eqb kind 3 n)
 
 -- an odd number of addresses is no whole number of pairs
-half : (n : ℕ) → 4 * n % 8 ≡ n % 2 * 4
-half n =
-    let d : 4 * n / 4 ≡ n = omega arith in
-    let z : 4 * n % 4 ≡ 0 = omega arith in
-    mod-mul (4 * n) {m = 2} {c = 4} (lit< tt) (lit< tt) ∙ (λ i. d i % 2 * 4 + z i) ∙ omega arith
-
 pub odd-addresses : (kind : ℕ) (l : List ℕ) → oddPairs kind (digitsOf 4 l) ≡ (eqb kind 3 && not (eqb (length l % 2) 0))
 unfolding oddPairs sizeOf sizes
-odd-addresses kind l =
-    let n : ℕ = length l in
-    ap (λ (k : ℕ). eqb kind 3 && not (eqb (k % 8) 0)) (length-digits-of 4 l) ∙ ap (λ (b : Bool). eqb kind 3 && not b) (go (decLe 1 (n % 2)))
+odd-addresses kind l = rw (length-digits-of 4 l) (ap (λ (b : Bool). eqb kind 3 && not b) (go (decLe 1 (length l % 2))))
   where
+    half : 4 * length l % 8 ≡ length l % 2 * 4
+    half = omega arith
+
     go : Dec (1 ≤ length l % 2) → eqb (4 * length l % 8) 0 ≡ eqb (length l % 2) 0
-    go (yes h) = ne-eqb (4 * length l % 8) 0 (λ z. omega (arith, half (length l))) ∙ sym (ne-eqb (length l % 2) 0 (λ z. omega arith))
-    go (no h) = eq-eqb (4 * length l % 8) 0 (omega (arith, half (length l))) ∙ sym (eq-eqb (length l % 2) 0 (omega arith))
+    go (yes h) = simp (ne-eqb (4 * length l % 8) 0 (λ z. omega (arith, half)), ne-eqb (length l % 2) 0 (λ z. omega arith))
+    go (no h) = simp (eq-eqb (4 * length l % 8) 0 (omega (arith, half)), eq-eqb (length l % 2) 0 (omega arith))
 
 -- the checks of the room, the place and the code
 module _ (kind code : ℕ) (room : List ℕ) (place : ℕ) where
@@ -174,25 +157,21 @@ module _ (kind code : ℕ) (room : List ℕ) (place : ℕ) where
     module _ (b : place ≤ length room) where
       pub code-pad : code ≡ padCode → Refuses (codeChecks kind code room place) 6
       unfolding codeChecks
-      code-pad c = later (not-long room a) (later (not-past place room b) (here (pad-code code c)))
+      code-pad c = room-behind room place a b (here (pad-code code c))
 
       module _ (c : code ≡ padCode → ⊥) where
         pub code-end : code ≡ endCode → Refuses (codeChecks kind code room place) 6
         unfolding codeChecks
-        code-end d = later (not-long room a) (later (not-past place room b) (here (end-code code c d)))
+        code-end d = room-behind room place a b (here (end-code code c d))
 
         module _ (d : code ≡ endCode → ⊥) where
           pub code-9 : (kindOf code ≡ kind → ⊥) → Refuses (codeChecks kind code room place) 9
           unfolding codeChecks otherKind
-          code-9 e =
-              later (not-long room a)
-              (later (not-past place room b) (later (a-code code c d) (here (ap not (ne-eqb (kindOf code) kind e)))))
+          code-9 e = room-behind room place a b (later (a-code code c d) (here (ap not (ne-eqb (kindOf code) kind e))))
 
           pub code-clear : kindOf code ≡ kind → Clear (codeChecks kind code room place)
           unfolding codeChecks otherKind
-          code-clear e =
-              next (not-long room a)
-              (next (not-past place room b) (next (a-code code c d) (next (ap not (eq-eqb (kindOf code) kind e)) done)))
+          code-clear e = room-clear room place a b (next (a-code code c d) (next (ap not (eq-eqb (kindOf code) kind e)) done))
 
 -- where they are clear, the room is no longer than the most, and the place is in it
 pub code-within : (kind code : ℕ) (room : List ℕ) (place : ℕ) → Clear (codeChecks kind code room place)
@@ -234,41 +213,22 @@ module _ (kind code : ℕ) (v room : List ℕ) (place : ℕ) where
           unfolding writeKind valueChecks
           clear = clear-both a (next b (next c (next (not-much v d) done)))
 
-          pub kind-8 : length room < place + length (encodeKind kind code v) → answerTo write room place ≡ refused 8
-          unfolding writeKind writeChecks
-          kind-8 e = write-refused write room place (refuses-behind clear (here (full room place (encodeKind kind code v) e)))
-
-          module _ (e : place + length (encodeKind kind code v) ≤ length room) where
-            pub kind-given : answerTo write room place ≡ given (place + length (encodeKind kind code v))
-            unfolding writeKind writeChecks
-            kind-given =
-                write-given write room place (clear-both clear (next (not-full room place (encodeKind kind code v) e) done))
-
-            pub kind-left : roomAfter write room place ≡ over room place (encodeKind kind code v)
-            unfolding writeKind
-            kind-left = given-left write room place _ kind-given
+          -- only the end of the room can refuse it: it is the write of its parts as they stand
+          pub kind-slice : (answerTo (writeSlice (encodeKind kind code v) room place) room place ≡ answerTo write room place)
+              × (roomAfter (writeSlice (encodeKind kind code v) room place) room place ≡ roomAfter write room place)
+          unfolding writeKind
+          kind-slice = clear-slice write room place clear (code-within kind code room place a .1)
 
         -- where its parts are those of a byte value, it is the write of one
         pub kind-alike : encodeKind kind code v ≡ encode mostPart code v
             → (answerTo (writeBytes code v room place) room place ≡ answerTo write room place)
             × (roomAfter (writeBytes code v room place) room place ≡ roomAfter write room place)
-        unfolding answerTo roomAfter writeChecks writeKind writeBytes codeChecks valueChecks checked
-        kind-alike e = go a
-          where
-            go : Clear (codeChecks kind code room place)
-                → (answerTo (writeBytes code v room place) room place ≡ answerTo write room place)
-                × (roomAfter (writeBytes code v room place) room place ≡ roomAfter write room place)
-            go (next w (next x (next y (next z done)))) = (rw (w, x, y, z, b, c, e), rw (w, x, y, z, b, c, e))
-
--- where only the end of the room can refuse it, it is the write of its parts as they stand
-pub kind-slice : (kind code : ℕ) (v room : List ℕ) (place : ℕ) → Clear (codeChecks kind code room place) → oddPairs kind v ≡ false
-    → notText kind v ≡ false → length v ≤ mostValue
-    → (answerTo (writeSlice (encodeKind kind code v) room place) room place ≡ answerTo (writeKind kind code v room place) room place)
-    × (roomAfter (writeSlice (encodeKind kind code v) room place) room place ≡ roomAfter (writeKind kind code v room place) room place)
-unfolding answerTo roomAfter writeChecks writeKind writeSlice codeChecks valueChecks checked
-kind-slice kind code v room place (next w (next x (next y (next z done)))) b c d =
-    let m = not-much v d in
-    (rw (w, x, y, z, b, c, m), rw (w, x, y, z, b, c, m))
+        unfolding writeKind writeBytes codeChecks valueChecks
+        kind-alike e =
+            let front = check (tooLong room) 2 ∷ check (pastEnd place room) 4 ∷ check (noCode code) 6 ∷ [] in
+            let same : Alike (writeBytes code v room place .checks) (write .checks) =
+            both refl (both refl (both refl (passes-right (clear-last front _ 9 a) (passes-right b (passes-right c (both refl none)))))) in
+            (answers-alike room place (sym e) same, left-alike room place (sym e) same)
 
 -- a typed value is written by its kind and its bytes
 pub value-kind : (kind code : ℕ) (content : Content) (room : List ℕ) (place : ℕ)

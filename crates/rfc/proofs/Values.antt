@@ -5,7 +5,7 @@ use Prim.Native.Nat.{ℕ, _≤_, _<_}
 use mathlib.Core.Bool.{false}
 use mathlib.Core.List.{List}
 use native.Mathlib.Omega.{arith}
-use borrow.Author.Tests.{ltb-false, eqb-true, not-false}
+use borrow.Author.Tests.{ltb-false, eqb-true, eqb-false, not-false}
 use lib.Dec.{lit<, eqb}
 use lib.ListN.{length, take}
 use Rattle.facts.specs.BigEndian.{number, signed}
@@ -30,19 +30,6 @@ pub data Scalar : ℕ → ℕ → Type 0 where
   messageType : Scalar 13 1
   threeBytes : Scalar 14 3
 
--- the kind of one element is no pairs, no text and no flag
-pub scalar-kind : {kind size : ℕ} → Scalar kind size → (sizeOf kind ≡ size) × (kind < 15) × (kind ≡ 3 → ⊥) × (kind ≡ 10 → ⊥)
-unfolding sizeOf sizes
-scalar-kind address = (refl, lit< tt, λ e. omega arith, λ e. omega arith)
-scalar-kind byte = (refl, lit< tt, λ e. omega arith, λ e. omega arith)
-scalar-kind yesNo = (refl, lit< tt, λ e. omega arith, λ e. omega arith)
-scalar-kind u16 = (refl, lit< tt, λ e. omega arith, λ e. omega arith)
-scalar-kind u32 = (refl, lit< tt, λ e. omega arith, λ e. omega arith)
-scalar-kind i32 = (refl, lit< tt, λ e. omega arith, λ e. omega arith)
-scalar-kind nodeType = (refl, lit< tt, λ e. omega arith, λ e. omega arith)
-scalar-kind messageType = (refl, lit< tt, λ e. omega arith, λ e. omega arith)
-scalar-kind threeBytes = (refl, lit< tt, λ e. omega arith, λ e. omega arith)
-
 -- what each holds
 abbrev pub holds : {kind size : ℕ} → Scalar kind size → List ℕ → Content
 holds address v = natural (number (take 4 v))
@@ -54,6 +41,32 @@ holds i32 v = integer (signed (number (take 4 v)))
 holds nodeType v = natural (number (take 1 v))
 holds messageType v = natural (number (take 1 v))
 holds threeBytes v = raw (take 3 v)
+
+-- what is so of each: it is no pairs, no text and no flag; it reads as what it holds; it is no list; and where its length is right, it has
+-- all its bytes
+record Is {kind size : ℕ} (k : Scalar kind size) : Type 0 where
+  about : (sizeOf kind ≡ size) × (kind < 15) × (eqb kind 3 ≡ false) × (eqb kind 10 ≡ false)
+  reads : (v : List ℕ) → valueOf kind v ≡ value kind (holds k v)
+  single : (v : List ℕ) → length (elements (value kind (holds k v))) ≡ 0
+  fits : (v : List ℕ) → wrongLength plain kind v ≡ false → size ≤ length v
+
+is : {kind size : ℕ} (k : Scalar kind size) → Is k
+unfolding valueOf contents lookup within sizeOf sizes elements wrongLength ruleFor rules
+is address = record { about = (refl, lit< tt, refl, refl); reads = λ v. refl; single = λ v. refl; fits = exact }
+  where
+    exact : (v : List ℕ) → wrongLength plain 1 v ≡ false → 4 ≤ length v
+    exact v e = omega (arith, eqb-true (length v) 4 (not-false _ e))
+is byte = record { about = (refl, lit< tt, refl, refl); reads = λ v. refl; single = λ v. refl; fits = λ v e. ltb-false _ 1 e }
+is yesNo = record { about = (refl, lit< tt, refl, refl); reads = λ v. refl; single = λ v. refl; fits = λ v e. ltb-false _ 1 e }
+is u16 = record { about = (refl, lit< tt, refl, refl); reads = λ v. refl; single = λ v. refl; fits = λ v e. ltb-false _ 2 e }
+is u32 = record { about = (refl, lit< tt, refl, refl); reads = λ v. refl; single = λ v. refl; fits = λ v e. ltb-false _ 4 e }
+is i32 = record { about = (refl, lit< tt, refl, refl); reads = λ v. refl; single = λ v. refl; fits = λ v e. ltb-false _ 4 e }
+is nodeType = record { about = (refl, lit< tt, refl, refl); reads = λ v. refl; single = λ v. refl; fits = λ v e. ltb-false _ 1 e }
+is messageType = record { about = (refl, lit< tt, refl, refl); reads = λ v. refl; single = λ v. refl; fits = λ v e. ltb-false _ 1 e }
+is threeBytes = record { about = (refl, lit< tt, refl, refl); reads = λ v. refl; single = λ v. refl; fits = λ v e. ltb-false _ 3 e }
+
+pub scalar-kind : {kind size : ℕ} → Scalar kind size → (sizeOf kind ≡ size) × (kind < 15) × (kind ≡ 3 → ⊥) × (kind ≡ 10 → ⊥)
+scalar-kind {kind} k = let a = is k .about in (a .0, a .1, eqb-false kind 3 (a .2), eqb-false kind 10 (a .3))
 
 -- the kinds that are lists: the bytes of one number, and the numbers of one element
 pub data Listed : ℕ → ℕ → ℕ → Type 0 where
@@ -88,29 +101,13 @@ module _ (v : List ℕ) where
   flag-single kind = refl
 
   pub scalar-value : {kind size : ℕ} (k : Scalar kind size) → valueOf kind v ≡ value kind (holds k v)
-  unfolding valueOf contents lookup within sizeOf sizes
-  scalar-value address = refl
-  scalar-value byte = refl
-  scalar-value yesNo = refl
-  scalar-value u16 = refl
-  scalar-value u32 = refl
-  scalar-value i32 = refl
-  scalar-value nodeType = refl
-  scalar-value messageType = refl
-  scalar-value threeBytes = refl
+  scalar-value k = is k .reads v
 
-  -- none of these is a list
   pub scalar-single : {kind size : ℕ} (k : Scalar kind size) → length (elements (value kind (holds k v))) ≡ 0
-  unfolding elements
-  scalar-single address = refl
-  scalar-single byte = refl
-  scalar-single yesNo = refl
-  scalar-single u16 = refl
-  scalar-single u32 = refl
-  scalar-single i32 = refl
-  scalar-single nodeType = refl
-  scalar-single messageType = refl
-  scalar-single threeBytes = refl
+  scalar-single k = is k .single v
+
+  pub scalar-fits : {kind size : ℕ} → Scalar kind size → wrongLength plain kind v ≡ false → size ≤ length v
+  scalar-fits k = is k .fits v
 
   pub listed-value : {kind width n : ℕ} → Listed kind width n → valueOf kind v ≡ value kind (numbers (numbersOf width v))
   unfolding valueOf contents lookup within widthOf
@@ -118,19 +115,6 @@ module _ (v : List ℕ) where
   listed-value pairs = refl
   listed-value u16s = refl
   listed-value codes = refl
-
-  -- a scalar whose length is right has all its bytes
-  pub scalar-fits : {kind size : ℕ} → Scalar kind size → wrongLength plain kind v ≡ false → size ≤ length v
-  unfolding wrongLength ruleFor rules lookup within sizeOf sizes
-  scalar-fits address e = let l : length v ≡ 4 = eqb-true (length v) 4 (not-false _ e) in omega arith
-  scalar-fits byte e = ltb-false (length v) 1 e
-  scalar-fits yesNo e = ltb-false (length v) 1 e
-  scalar-fits u16 e = ltb-false (length v) 2 e
-  scalar-fits u32 e = ltb-false (length v) 4 e
-  scalar-fits i32 e = ltb-false (length v) 4 e
-  scalar-fits nodeType e = ltb-false (length v) 1 e
-  scalar-fits messageType e = ltb-false (length v) 1 e
-  scalar-fits threeBytes e = ltb-false (length v) 3 e
 
 -- the node types by their bytes
 pub named : (nodeOf 1 ≡ bNode) × (nodeOf 2 ≡ pNode) × (nodeOf 4 ≡ mNode) × (nodeOf 8 ≡ hNode)

@@ -10,8 +10,9 @@ use Rattle.facts.specs.Over.{over}
 use Rattle.facts.specs.Pieces.{pieces}
 use Rattle.facts.proofs.Least.{take-least, drop-least}
 use Rattle.facts.proofs.Pieces.{pieces-none, pieces-more, flatten-pieces, count-pieces}
-use Rattle.rfc.specs.Numbers.{Answer, given, refused, mostBytes, mostValue, mostPart, padCode, endCode, noRoom, checked}
+use Rattle.rfc.specs.Numbers.{Answer, given, refused, mostBytes, mostValue, mostPart, padCode, endCode, tooLong, pastEnd, noRoom, Check, check}
 use Rattle.rfc.specs.Writing.{partsOf, encode, Write, writeChecks, answerTo, roomLeft, roomAfter, writeSlice, intoRoom, writeBytes, close}
+use Rattle.rfc.proofs.Alike.{clear-slice}
 use Rattle.rfc.proofs.Numbers.{Refuses, here, later, refuses, Clear, done, next, clears, passes, clear-last, given-no, long, not-long, past, not-past, pad-code, end-code, a-code, much, not-much, full, not-full, room-left}
 
 -- two bytes for each part
@@ -28,7 +29,7 @@ module _ (size : ℕ) (some : 0 < size) (code : ℕ) where
 
   pub encode-empty : (v : List ℕ) → length v ≡ 0 → encode size code v ≡ []
   encode-empty [] e = encode-none
-  encode-empty (b ∷ v) e = absurd (let f : ⊥ = omega arith in f)
+  encode-empty (b ∷ v) e = absurd (omega arith)
 
   pub encode-more : (v : List ℕ) → 0 < length v
       → encode size code v ≡ code ∷ length (take size v) ∷ (take size v ++ encode size code (drop size v))
@@ -40,24 +41,31 @@ module _ (size : ℕ) (some : 0 < size) (code : ℕ) where
   length-encode v =
       omega (arith, length-parts code (pieces size v), count-pieces size some v, ap length (flatten-pieces size some v))
 
+  -- they are its own bytes and, where there is one, a head
+  pub encode-takes : (v : List ℕ) → length v + 2 * min 1 (length v) ≤ length (encode size code v)
+  encode-takes [] = omega arith
+  encode-takes (b ∷ v) =
+      let all : List ℕ = b ∷ v in
+      omega (arith, length-encode all, count-pieces size some all, ap length (pieces-more size some all (omega arith)))
+
   -- where something is written, there is a value, and where nothing is, there is none
   pub some-value : (v : List ℕ) → 0 < length (encode size code v) → 0 < length v
-  some-value [] h = absurd (let f : ⊥ = omega (arith, ap length encode-none) in f)
+  some-value [] h = absurd (omega (arith, ap length encode-none))
   some-value (b ∷ v) h = omega arith
 
   pub no-value : (v : List ℕ) → length (encode size code v) ≡ 0 → v ≡ []
   no-value [] e = refl
-  no-value (b ∷ v) e = absurd (let f : ⊥ = omega (arith, ap length (encode-more (b ∷ v) (omega arith))) in f)
+  no-value (b ∷ v) e = absurd (omega (arith, ap length (encode-more (b ∷ v) (omega arith))))
 
 -- a value that fits in one part is one, whatever the most bytes of a part are
 pub encode-once : (size code : ℕ) (v : List ℕ) → 0 < length v → length v ≤ size → encode size code v ≡ code ∷ length v ∷ v
 encode-once size code v h g =
     let some : 0 < size = omega arith in
-    let t : take size v ≡ v = take-all size v g in
-    encode-more size some code v h
-    ∙ (λ i. code ∷ length (t i) ∷ (t i ++ encode size code (drop-of-length-le v g i)))
-    ∙ ap (λ (r : List ℕ). code ∷ length v ∷ (v ++ r)) (encode-none size some code)
-    ∙ ap (λ (r : List ℕ). code ∷ length v ∷ r) (append-nil v)
+    encode-more size some code v h ∙ rw (take-all size v g, drop-of-length-le v g, encode-none size some code, append-nil)
+
+-- two writes answer alike at a place of a room, and leave the same
+abbrev pub Alike : Write → Write → List ℕ → ℕ → Type 0
+Alike w w′ room place = (answerTo w room place ≡ answerTo w′ room place) × (roomAfter w room place ≡ roomAfter w′ room place)
 
 -- any write: what the checks decide, and what is left
 module _ (w : Write) (room : List ℕ) (place : ℕ) where
@@ -110,6 +118,14 @@ module _ (bytes room : List ℕ) (place : ℕ) where
       unfolding writeSlice writeChecks
       slice-left = given-left (writeSlice bytes room place) room place _ slice-given
 
+-- behind the checks of the room and the place, with which a write into a room begins
+module _ (room : List ℕ) (place : ℕ) (a : length room ≤ mostBytes) (b : place ≤ length room) where
+  pub room-behind : {cs : List Check} {k : ℕ} → Refuses cs k → Refuses (check (tooLong room) 2 ∷ check (pastEnd place room) 4 ∷ cs) k
+  room-behind r = later (not-long room a) (later (not-past place room b) r)
+
+  pub room-clear : {cs : List Check} → Clear cs → Clear (check (tooLong room) 2 ∷ check (pastEnd place room) 4 ∷ cs)
+  room-clear c = next (not-long room a) (next (not-past place room b) c)
+
 -- bytes as they stand, into a room
 module _ (bytes room : List ℕ) (place : ℕ) where
   pub into-2 : mostBytes < length room → answerTo (intoRoom bytes room place) room place ≡ refused 2
@@ -124,14 +140,12 @@ module _ (bytes room : List ℕ) (place : ℕ) where
     module _ (b : place ≤ length room) where
       pub into-8 : length room < place + length bytes → answerTo (intoRoom bytes room place) room place ≡ refused 8
       unfolding intoRoom writeChecks
-      into-8 c = write-refused _ room place (later (not-long room a) (later (not-past place room b) (here (full room place bytes c))))
+      into-8 c = write-refused _ room place (room-behind room place a b (here (full room place bytes c)))
 
       module _ (c : place + length bytes ≤ length room) where
         pub into-given : answerTo (intoRoom bytes room place) room place ≡ given (place + length bytes)
         unfolding intoRoom writeChecks
-        into-given =
-            write-given (intoRoom bytes room place) room place
-            (next (not-long room a) (next (not-past place room b) (next (not-full room place bytes c) done)))
+        into-given = write-given _ room place (room-clear room place a b (next (not-full room place bytes c) done))
 
         pub into-left : roomAfter (intoRoom bytes room place) room place ≡ over room place bytes
         unfolding intoRoom writeChecks
@@ -164,59 +178,50 @@ module _ (room : List ℕ) (place : ℕ) where
 
 -- a byte value
 module _ (code : ℕ) (v room : List ℕ) (place : ℕ) where
-  pub bytes-2 : mostBytes < length room → answerTo (writeBytes code v room place) room place ≡ refused 2
+  abbrev parts : List ℕ
+  parts = encode mostPart code v
+
+  abbrev write : Write
+  write = writeBytes code v room place
+
+  pub bytes-2 : mostBytes < length room → answerTo write room place ≡ refused 2
   unfolding writeBytes writeChecks
-  bytes-2 a = write-refused _ room place (here (long room a))
+  bytes-2 a = write-refused write room place (here (long room a))
 
   module _ (a : length room ≤ mostBytes) where
-    pub bytes-4 : length room < place → answerTo (writeBytes code v room place) room place ≡ refused 4
+    pub bytes-4 : length room < place → answerTo write room place ≡ refused 4
     unfolding writeBytes writeChecks
-    bytes-4 b = write-refused _ room place (later (not-long room a) (here (past place room b)))
+    bytes-4 b = write-refused write room place (later (not-long room a) (here (past place room b)))
 
     module _ (b : place ≤ length room) where
-      pub bytes-pad : code ≡ padCode → answerTo (writeBytes code v room place) room place ≡ refused 6
+      pub bytes-pad : code ≡ padCode → answerTo write room place ≡ refused 6
       unfolding writeBytes writeChecks
-      bytes-pad c =
-          write-refused _ room place (later (not-long room a) (later (not-past place room b) (here (pad-code code c))))
+      bytes-pad c = write-refused write room place (room-behind room place a b (here (pad-code code c)))
 
       module _ (c : code ≡ padCode → ⊥) where
-        pub bytes-end : code ≡ endCode → answerTo (writeBytes code v room place) room place ≡ refused 6
+        pub bytes-end : code ≡ endCode → answerTo write room place ≡ refused 6
         unfolding writeBytes writeChecks
-        bytes-end d =
-            write-refused _ room place (later (not-long room a) (later (not-past place room b) (here (end-code code c d))))
+        bytes-end d = write-refused write room place (room-behind room place a b (here (end-code code c d)))
 
         module _ (d : code ≡ endCode → ⊥) where
-          pub bytes-7 : mostValue < length v → answerTo (writeBytes code v room place) room place ≡ refused 7
+          pub bytes-7 : mostValue < length v → answerTo write room place ≡ refused 7
           unfolding writeBytes writeChecks
-          bytes-7 e =
-              write-refused _ room place
-              (later (not-long room a) (later (not-past place room b) (later (a-code code c d) (here (much v e)))))
+          bytes-7 e = write-refused write room place (room-behind room place a b (later (a-code code c d) (here (much v e))))
 
           module _ (e : length v ≤ mostValue) where
             -- only the end of the room can refuse it: it is the write of its parts as they stand
-            pub bytes-slice :
-                (answerTo (writeSlice (encode mostPart code v) room place) room place ≡ answerTo (writeBytes code v room place) room place)
-                × (roomAfter (writeSlice (encode mostPart code v) room place) room place ≡ roomAfter (writeBytes code v room place) room place)
-            unfolding answerTo roomAfter writeChecks writeBytes writeSlice checked
-            bytes-slice =
-                let w = not-long room a in
-                let x = not-past place room b in
-                let y = a-code code c d in
-                let z = not-much v e in
-                (rw (w, x, y, z), rw (w, x, y, z))
+            pub bytes-slice : Alike (writeSlice parts room place) write room place
+            unfolding writeBytes
+            bytes-slice = clear-slice write room place (room-clear room place a b (next (a-code code c d) (next (not-much v e) done))) b
 
-            module _ (f : place + length (encode mostPart code v) ≤ length room) where
-              pub bytes-given : answerTo (writeBytes code v room place) room place ≡ given (place + length (encode mostPart code v))
-              bytes-given = sym (bytes-slice .0) ∙ slice-given (encode mostPart code v) room place b f
+            module _ (f : place + length parts ≤ length room) where
+              pub bytes-given : answerTo write room place ≡ given (place + length parts)
+              bytes-given = sym (bytes-slice .0) ∙ slice-given parts room place b f
 
-              pub bytes-left : roomAfter (writeBytes code v room place) room place ≡ over room place (encode mostPart code v)
-              bytes-left = sym (bytes-slice .1) ∙ slice-left (encode mostPart code v) room place b f
+              pub bytes-left : roomAfter write room place ≡ over room place parts
+              bytes-left = sym (bytes-slice .1) ∙ slice-left parts room place b f
 
 -- the next part by the number of its bytes, as code that counts them has it
 pub encode-next : (size : ℕ) → 0 < size → (code : ℕ) (v : List ℕ) (n : ℕ) → 0 < length v → n ≡ min size (length v)
     → encode size code v ≡ code ∷ n ∷ (take n v ++ encode size code (drop n v))
-encode-next size some code v n h e =
-    let l : length (take size v) ≡ n = length-take size v ∙ sym e in
-    let t : take size v ≡ take n v = sym (ap (λ (k : ℕ). take k v) e ∙ take-least size v) in
-    let d : drop size v ≡ drop n v = sym (ap (λ (k : ℕ). drop k v) e ∙ drop-least size v) in
-    encode-more size some code v h ∙ (λ i. code ∷ l i ∷ (t i ++ encode size code (d i)))
+encode-next size some code v n h e = rw (e, take-least, drop-least, ← (length-take size v)) (encode-more size some code v h)

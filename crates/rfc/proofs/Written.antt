@@ -1,6 +1,6 @@
 -- A typed write that is given: what it has passed, where it ends and what it leaves, and of which values it writes nothing.
 -- Assumes nothing.
-use mathlib.Core.Path.{_≡_, ap, _∙_, subst}
+use mathlib.Core.Path.{_≡_, ap}
 use Prim.Native.Nat.{ℕ, _+_, _≤_, _<_}
 use mathlib.Core.Bool.{false}
 use mathlib.Core.List.{List, [], _∷_}
@@ -61,13 +61,12 @@ written code x room place to e = go (passes _ _ (given to) (given-no to) e .0)
 
 module _ {code : ℕ} {x : Value} {room : List ℕ} {place to : ℕ} (w : Written code x room place to) where
   pub below-16 : x .kind < 16
-  below-16 = subst (λ (k : ℕ). k < 16) (w .is) (kind-below code)
+  below-16 = omega (arith, w .is, kind-below code)
 
   -- nothing is written exactly of an empty value
   pub nothing-put : Proper (x .kind) (x .content) → to ≡ place → Empty (x .content)
   nothing-put proper e =
-      let flag-put : x .kind ≡ 15 → put code x ≡ code ∷ 0 ∷ [] =
-      λ is. ap (λ (k : ℕ). encodeKind k code (bytesOf x)) is ∙ encode-flag code (bytesOf x) in
+      let flag-put : x .kind ≡ 15 → put code x ≡ code ∷ 0 ∷ [] = λ is. rw is (encode-flag code _) in
       let other : x .kind ≡ 15 → ⊥ = λ is. omega (arith, w .ends, ap length (flag-put is)) in
       let low : x .kind < 15 = omega (arith, below-16, other) in
       let none : length (encode (partSize (x .kind)) code (bytesOf x)) ≡ 0 =
@@ -78,7 +77,6 @@ module _ {code : ℕ} {x : Value} {room : List ℕ} {place to : ℕ} (w : Writte
   put-nothing proper e =
       let low : x .kind < 15 = empty-kind proper e in
       let none : put code x ≡ [] =
-      encode-kind (x .kind) code (bytesOf x) (λ is. omega arith)
-      ∙ ap (encode (partSize (x .kind)) code) (empty-bytes (x .kind) (x .content) e)
-      ∙ encode-none _ (some-part (x .kind) low) code in
+      rw (encode-kind (x .kind) code (bytesOf x) (λ is. omega arith), empty-bytes (x .kind) (x .content) e)
+      (encode-none _ (some-part (x .kind) low) code) in
       omega (arith, w .ends, ap length none)

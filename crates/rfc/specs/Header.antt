@@ -70,7 +70,7 @@ magicField = part 236 4
 unfoldable pub messageChecks : List ℕ → List Check
 messageChecks message = check (tooLong message) 2 ∷ check (tooShort message) 1 ∷ []
 
--- a field as a number, in network byte order (section 2)
+-- a field as a number, in network byte order (RFC 2132, section 2)
 unfoldable pub field : Part → List ℕ → Answer ℕ
 field f message = checked (messageChecks message) (given (number (bytesOf f message)))
 

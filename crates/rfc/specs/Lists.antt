@@ -75,8 +75,8 @@ unfoldable pub listIn : ℕ → List ℕ → ℕ → ℕ → Listing
 listIn zero area room place = record { options = []; ending = step area place room }
 listIn (suc k) area room place = onward (step area place room) (listIn k area room)
 
--- from the area's front. An option takes two bytes or more, so no area has more options than bytes, and the listing ends with an answer that
--- is no option (`Ending`, proved of every listing)
+-- from the area's front. An option takes two bytes or more, so no area has more options than bytes, and the listing ends with an
+-- answer that is no option (`Ending`, proved of every listing)
 unfoldable pub listing : List ℕ → ℕ → Listing
 listing area room = listIn (length area) area room 0
 

@@ -86,6 +86,11 @@ unfoldable pub checked : {A : Type 0} → List Check → Answer A → Answer A
 checked [] answer = answer
 checked (check test number ∷ checks) answer = cond test (refused number) (checked checks answer)
 
+-- the number of the first check whose test holds; 0 where none does
+unfoldable pub firstRefusal : List Check → ℕ
+firstRefusal [] = 0
+firstRefusal (check test number ∷ checks) = cond test number (firstRefusal checks)
+
 -- the order of the checks; 4 for a place comes third, 4 for an index eleventh
 abbrev pub order : List ℕ
 order = 2 ∷ 1 ∷ 4 ∷ 6 ∷ 9 ∷ 13 ∷ 12 ∷ 10 ∷ 11 ∷ 14 ∷ 4 ∷ 3 ∷ 7 ∷ 5 ∷ 8 ∷ []
