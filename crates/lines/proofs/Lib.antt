@@ -1,5 +1,3 @@
-pub mod Adding
-pub mod Decimal
 pub mod Telling
 pub mod Whole
 pub mod Unique

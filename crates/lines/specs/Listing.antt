@@ -1,8 +1,8 @@
 -- The listing of a message: its text as ASCII, line by line (document 01, "Worked examples").
 -- Assumes nothing.
-use Prim.Native.Nat.{ℕ, suc, zero, _+_, _/_, _%_}
+use Prim.Native.Nat.{ℕ, suc, zero}
 use mathlib.Core.Bool.{cond}
-use mathlib.Core.List.{List, [], _∷_, _++_}
+use mathlib.Core.List.{List, [], _++_}
 use lib.Dec.{ltb}
 use lib.ListN.{length}
 use Rattle.facts.specs.BigEndian.{number}
@@ -11,30 +11,13 @@ use Rattle.rfc.specs.Header as header
 use Rattle.rfc.specs.Header.{bytesOf}
 use Rattle.rfc.specs.Walk as walk
 use Rattle.rfc.specs.Kinds.{kindOf}
+use Rattle.pen.specs.Texts.{space, named, spaced}
 use Rattle.lines.specs.Words as words
 use Rattle.lines.specs.Words.{newline}
 
 -- the most bytes of a message that is listed, and the room in which its options are joined
 abbrev pub mostListed : ℕ
 mostListed = 4096
-
--- a number in decimal, with no more than so many digits: below ten it is a digit, and else the digits of its tenth and then its last one
-unfoldable pub decimalIn : ℕ → ℕ → List ℕ
-decimalIn zero n = []
-decimalIn (suc k) n = cond (ltb n 10) ((48 + n) ∷ []) (decimalIn k (n / 10) ++ (48 + n % 10) ∷ [])
-
--- every number of 64 bits has at most twenty digits
-unfoldable pub decimal : ℕ → List ℕ
-decimal n = decimalIn 20 n
-
--- a word, and a number behind it
-abbrev pub named : List ℕ → ℕ → List ℕ
-named word n = word ++ decimal n
-
--- bytes, each behind a space
-unfoldable pub spaced : List ℕ → List ℕ
-spaced [] = []
-spaced (b ∷ bytes) = named words.space b ++ spaced bytes
 
 -- line 1: the length and four numbers of the header
 unfoldable pub messageLine : List ℕ → List ℕ
@@ -53,8 +36,8 @@ refusedLine number = named words.refused number ++ newline
 -- line 2: the address bytes, or the refusal
 unfoldable pub addressText : List ℕ → Answer header.Part → List ℕ
 addressText message (given p) = spaced (bytesOf p message) ++ newline
-addressText message (refused number) = words.space ++ refusedLine number
-addressText message (needs len) = words.space ++ refusedLine 5
+addressText message (refused number) = space ++ refusedLine number
+addressText message (needs len) = space ++ refusedLine 5
 
 unfoldable pub chaddrLine : List ℕ → List ℕ
 chaddrLine message = words.chaddr ++ addressText message (header.chaddr message)

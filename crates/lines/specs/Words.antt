@@ -127,9 +127,6 @@ magicWrong = m ∷ a ∷ g ∷ i ∷ c ∷ sp ∷ w ∷ r ∷ o ∷ n ∷ g ∷ 
 abbrev pub tooLong : List ℕ
 tooLong = t ∷ o ∷ o ∷ sp ∷ l ∷ o ∷ n ∷ g ∷ []
 
-abbrev pub space : List ℕ
-space = sp ∷ []
-
 -- the end of a line
 abbrev pub newline : List ℕ
 newline = 10 ∷ []

@@ -1,16 +1,15 @@
 // The listing of a message as text, written into a lent room: a line for the header, one for the hardware address, one for each option,
 // and the stop.
-mod pen;
-
 ghost use mathlib.Core.Path.{_≡_};
 ghost use lib.ListN.{length};
 ghost use Rattle.rfc.specs.Header as rfc;
 ghost use Rattle.rfc.specs.Writing.{intoRoom};
 ghost use Rattle.encoder.specs.Written.{Wrote};
 ghost use Rattle.borrowed.specs.Walked.{stopOf};
-ghost use Rattle.lines.specs.Listing.{named, messageLine, addressText, chaddrLine, areaLines, listing};
+ghost use Rattle.pen.specs.Texts.{named};
+ghost use Rattle.pen.specs.Adding.{addsAll};
+ghost use Rattle.lines.specs.Listing.{messageLine, addressText, chaddrLine, areaLines, listing};
 ghost use Rattle.lines.specs.Listing.{refusedLine, optionLine, stopWord, stopLine, linesIn};
-ghost use Rattle.lines.specs.Adding.{addsAll};
 ghost use Rattle.lines.specs.Told.{Listed, numberIn, endingOf};
 use borrowed::answer::Step;
 use borrowed::answer::Stop;

@@ -1,131 +1,50 @@
 -- `put_stop_word` meets its contract: a word for each stop.
 -- Assumes nothing.
-use mathlib.Core.Path.{sym, ap, _∙_}
-use denote.Ref.{now}
-use Rattle.borrowed.specs.Walked.{stopOf}
-use Rattle.lines.specs.Listing.{stopWord}
-use Rattle.lines.specs.Adding.{addsAll}
-use Rattle.borrowed.specs.declared.answer.Stop.{Stop}
 use borrow.Author.Needs.{needs}
 use Rattle.lines.proofs.put_stop_word.Statement.{statement}
 use Rattle.lines.proofs.put_stop_word.Tie as tie
 
-enum-told : tie.Need-enum-told
-enum-told c = search needs
-
-slice-aggregate-put-word : tie.Need-slice-aggregate-put-word
-slice-aggregate-put-word c = search needs
-
-put-word-requires : tie.Need-put-word-requires
-put-word-requires c κs = search needs
-
-enum-told-2 : tie.Need-enum-told-2
-enum-told-2 c = search needs
-
-slice-aggregate-put-word-2 : tie.Need-slice-aggregate-put-word-2
-slice-aggregate-put-word-2 c = search needs
-
-put-word-requires-2 : tie.Need-put-word-requires-2
-put-word-requires-2 c κs = search needs
-
-enum-told-3 : tie.Need-enum-told-3
-enum-told-3 c = search needs
-
-slice-aggregate-put-word-3 : tie.Need-slice-aggregate-put-word-3
-slice-aggregate-put-word-3 c = search needs
-
-put-word-requires-3 : tie.Need-put-word-requires-3
-put-word-requires-3 c κs = search needs
-
-enum-told-4 : tie.Need-enum-told-4
-enum-told-4 c = search needs
-
-slice-aggregate-put-word-4 : tie.Need-slice-aggregate-put-word-4
-slice-aggregate-put-word-4 c = search needs
-
-put-word-requires-4 : tie.Need-put-word-requires-4
-put-word-requires-4 c κs = search needs
-
-enum-told-5 : tie.Need-enum-told-5
-enum-told-5 c = search needs
-
-slice-aggregate-put-word-5 : tie.Need-slice-aggregate-put-word-5
-slice-aggregate-put-word-5 c = search needs
-
-put-word-requires-5 : tie.Need-put-word-requires-5
-put-word-requires-5 c κs = search needs
-
-same-length : tie.Need-same-length
-same-length c = search needs
-
 returns : tie.Need-returns
-returns c =
-    let a = c .before .before .before .before .before .before .before .before .args in
-    c .before .before .put-word .ensures
-    ∙ ap (λ (s : Stop). addsAll (now (a .text), a .at) (stopWord (stopOf s))) (sym (c .before .before .before .before .before .enum-told .given .1))
-
-same-length-2 : tie.Need-same-length-2
-same-length-2 c = search needs
+returns c = rw (c .before .before .before .before .before .enum-told .given .1) (c .before .before .put-word .ensures)
 
 returns-2 : tie.Need-returns-2
-returns-2 c =
-    let a = c .before .before .before .before .before .before .before .before .args in
-    c .before .before .put-word2 .ensures
-    ∙ ap (λ (s : Stop). addsAll (now (a .text), a .at) (stopWord (stopOf s))) (sym (c .before .before .before .before .before .enum-told2 .given .1))
-
-same-length-3 : tie.Need-same-length-3
-same-length-3 c = search needs
+returns-2 c = rw (c .before .before .before .before .before .enum-told2 .given .1) (c .before .before .put-word2 .ensures)
 
 returns-3 : tie.Need-returns-3
-returns-3 c =
-    let a = c .before .before .before .before .before .before .before .before .args in
-    c .before .before .put-word3 .ensures
-    ∙ ap (λ (s : Stop). addsAll (now (a .text), a .at) (stopWord (stopOf s))) (sym (c .before .before .before .before .before .enum-told3 .given .1))
-
-same-length-4 : tie.Need-same-length-4
-same-length-4 c = search needs
+returns-3 c = rw (c .before .before .before .before .before .enum-told3 .given .1) (c .before .before .put-word3 .ensures)
 
 returns-4 : tie.Need-returns-4
-returns-4 c =
-    let a = c .before .before .before .before .before .before .before .before .args in
-    c .before .before .put-word4 .ensures
-    ∙ ap (λ (s : Stop). addsAll (now (a .text), a .at) (stopWord (stopOf s))) (sym (c .before .before .before .before .before .enum-told4 .given .1))
-
-same-length-5 : tie.Need-same-length-5
-same-length-5 c = search needs
+returns-4 c = rw (c .before .before .before .before .before .enum-told4 .given .1) (c .before .before .put-word4 .ensures)
 
 returns-5 : tie.Need-returns-5
-returns-5 c =
-    let a = c .before .before .before .before .before .before .before .before .args in
-    c .before .before .put-word5 .ensures
-    ∙ ap (λ (s : Stop). addsAll (now (a .text), a .at) (stopWord (stopOf s))) (sym (c .before .before .before .before .before .enum-told5 .given .1))
+returns-5 c = rw (c .before .before .before .before .before .enum-told5 .given .1) (c .before .before .put-word5 .ensures)
 
 pub put-stop-word-spec : {M : Type 1} → statement M
 put-stop-word-spec =
     tie.close
     (tie.spec
-    enum-told
-    slice-aggregate-put-word
-    put-word-requires
-    enum-told-2
-    slice-aggregate-put-word-2
-    put-word-requires-2
-    enum-told-3
-    slice-aggregate-put-word-3
-    put-word-requires-3
-    enum-told-4
-    slice-aggregate-put-word-4
-    put-word-requires-4
-    enum-told-5
-    slice-aggregate-put-word-5
-    put-word-requires-5
-    same-length
+    (λ c. search needs)
+    (λ c. search needs)
+    (λ c κs. search needs)
+    (λ c. search needs)
+    (λ c. search needs)
+    (λ c κs. search needs)
+    (λ c. search needs)
+    (λ c. search needs)
+    (λ c κs. search needs)
+    (λ c. search needs)
+    (λ c. search needs)
+    (λ c κs. search needs)
+    (λ c. search needs)
+    (λ c. search needs)
+    (λ c κs. search needs)
+    (λ c. search needs)
     returns
-    same-length-2
+    (λ c. search needs)
     returns-2
-    same-length-3
+    (λ c. search needs)
     returns-3
-    same-length-4
+    (λ c. search needs)
     returns-4
-    same-length-5
+    (λ c. search needs)
     returns-5)

@@ -9,48 +9,24 @@ use Rattle.rfc.specs.Numbers.{given}
 use Rattle.rfc.proofs.Writing.{into-2, into-4, into-8, into-given, into-left}
 use Rattle.encoder.proofs.Answers.{refuses, writes}
 use Rattle.lines.specs.Listing.{listing}
-use Rattle.lines.specs.Adding.{State}
-use Rattle.lines.proofs.Adding.{fits, counts, counts-most}
+use Rattle.pen.specs.Adding.{State}
+use Rattle.pen.proofs.Adding.{fits, counts, counts-most}
 use borrow.Author.Needs.{needs}
 use Rattle.lines.proofs.write_listing.Statement.{statement}
 use Rattle.lines.proofs.write_listing.Tie as tie
 
 returns : tie.Need-returns
-returns c =
-    let a = c .before .before .before .args in
-    refuses _ (a .room .now) (a .place) 2 (into-2 (listing (now (a .message))) (a .room .now) (a .place) (c .if1 .taken))
+returns c = refuses _ _ _ 2 (into-2 _ _ _ (c .if1 .taken))
 
 returns-2 : tie.Need-returns-2
-returns-2 c =
-    let a = c .before .before .before .before .args in
-    refuses _ (a .room .now) (a .place) 4
-    (into-4 (listing (now (a .message))) (a .room .now) (a .place) (c .before .if1 .left) (c .if2 .taken))
-
-slice-aggregate-put-listing : tie.Need-slice-aggregate-put-listing
-slice-aggregate-put-listing c = search needs
-
-put-listing-requires : tie.Need-put-listing-requires
-put-listing-requires c κs = search needs
-
-sub-if3 : tie.Need-sub-if3
-sub-if3 c = search needs
+returns-2 c = refuses _ _ _ 4 (into-4 _ _ _ (c .before .if1 .left) (c .if2 .taken))
 
 returns-3 : tie.Need-returns-3
 returns-3 c =
     let measured = c .before .before in
     let tests = measured .before .before in
-    let a = tests .before .before .before .before .args in
-    let text = listing (now (a .message)) in
-    let size = ap (λ (s : State). s .1) (sym (measured .put-listing .ensures)) in
-    refuses _ (a .room .now) (a .place) 8
-    (into-8 text (a .room .now) (a .place) (tests .before .if1 .left) (tests .if2 .left)
-    (omega (arith, counts-most _ _ text size, c .if3 .taken)))
-
-put-listing-requires-2 : tie.Need-put-listing-requires-2
-put-listing-requires-2 c κs = search needs
-
-same-length : tie.Need-same-length
-same-length c = search needs
+    let size = counts-most _ _ _ (ap (λ (s : State). s .1) (sym (measured .put-listing .ensures))) in
+    refuses _ _ _ 8 (into-8 _ _ _ (tests .before .if1 .left) (tests .if2 .left) (omega arith))
 
 returns-4 : tie.Need-returns-4
 returns-4 c =
@@ -59,17 +35,14 @@ returns-4 c =
     let tests = measured .before .before in
     let a = tests .before .before .before .before .args in
     let text = listing (now (a .message)) in
-    let room = a .room .now in
     let short = tests .before .if1 .left in
     let within = tests .if2 .left in
-    let left = test .if3 .left in
-    let size = ap (λ (s : State). s .1) (sym (measured .put-listing .ensures)) in
-    let inside : a .place + length text ≤ length room =
-    omega (arith, counts _ _ text size (omega (arith, short, left)), left, within) in
-    let done = c .before .before .put-listing2 .ensures ∙ fits room (a .place) text short inside in
-    writes _ room (a .place) _ _
-    (into-given text room (a .place) short within inside ∙ ap (λ n. given n) (sym (ap (λ (s : State). s .1) done)))
-    (into-left text room (a .place) short within inside ∙ sym (ap (λ (s : State). s .0) done))
+    let size = counts _ _ text (ap (λ (s : State). s .1) (sym (measured .put-listing .ensures))) (omega arith) in
+    let inside : a .place + length text ≤ length (a .room .now) = omega arith in
+    let done = c .before .before .put-listing2 .ensures ∙ fits _ _ text short inside in
+    writes _ _ _ _ _
+    (into-given text _ _ short within inside ∙ ap (λ (s : State). given (s .1)) (sym done))
+    (into-left text _ _ short within inside ∙ ap (λ (s : State). s .0) (sym done))
 
 pub write-listing-spec : {M : Type 1} → statement M
 write-listing-spec =
@@ -77,10 +50,10 @@ write-listing-spec =
     (tie.spec
     returns
     returns-2
-    slice-aggregate-put-listing
-    put-listing-requires
-    sub-if3
+    (λ c. search needs)
+    (λ c κs. search needs)
+    (λ c. search needs)
     returns-3
-    put-listing-requires-2
-    same-length
+    (λ c κs. search needs)
+    (λ c. search needs)
     returns-4)

@@ -5,18 +5,9 @@ use borrow.Author.Needs.{needs}
 use Rattle.sindovaleph_lines.proofs.sindovaleph_write_listing.Statement.{statement}
 use Rattle.sindovaleph_lines.proofs.sindovaleph_write_listing.Tie as tie
 
-write-listing-requires : tie.Need-write-listing-requires
-write-listing-requires c κs = search needs
-
-written-of-requires : tie.Need-written-of-requires
-written-of-requires c κs = search needs
-
-same-length : tie.Need-same-length
-same-length c = search needs
-
 returns : tie.Need-returns
 returns c = wrote-crosses (c .before .before .before .write-listing .ensures) (c .written-of .ensures)
 
 pub sindovaleph-write-listing-spec : {M : Type 1} → statement M
 sindovaleph-write-listing-spec =
-    tie.close (tie.spec write-listing-requires written-of-requires same-length returns)
+    tie.close (tie.spec (λ c κs. search needs) (λ c κs. search needs) (λ c. search needs) returns)

@@ -12,7 +12,7 @@ use Rattle.facts.specs.Over.{over}
 use Rattle.facts.proofs.Folds.{fold-next, fold-end}
 use Rattle.facts.proofs.Over.{over-nil, over-over, set-over}
 use Rattle.rfc.specs.Numbers.{mostBytes}
-use Rattle.lines.specs.Adding.{State, behind, adds, addsAll}
+use Rattle.pen.specs.Adding.{State, behind, adds, addsAll}
 
 -- the place behind a place
 pub behind-next : (at : ℕ) → at ≤ mostBytes → behind at ≡ at + 1
@@ -23,19 +23,15 @@ pub behind-last : (at : ℕ) → mostBytes < at → behind at ≡ at
 unfolding behind
 behind-last at h = rw (lt-leb at mostBytes h)
 
-behind-most : (at : ℕ) → behind at ≤ at + 1
-behind-most at = go (leb at mostBytes) refl
+behind-is : (at : ℕ) → (behind at ≤ at + 1) × (behind at ≤ mostBytes → behind at ≡ at + 1)
+behind-is at = go (leb at mostBytes) refl
   where
-    go : (t : Bool) → leb at mostBytes ≡ t → behind at ≤ at + 1
-    go true e = omega (arith, behind-next at (leb-true at mostBytes e))
-    go false e = omega (arith, behind-last at (leb-false at mostBytes e))
-
-behind-exact : (at n : ℕ) → n ≤ mostBytes → behind at ≤ n → behind at ≡ at + 1
-behind-exact at n h g = go (leb at mostBytes) refl
-  where
-    go : (t : Bool) → leb at mostBytes ≡ t → behind at ≡ at + 1
-    go true e = behind-next at (leb-true at mostBytes e)
-    go false e = absurd (let f : ⊥ = omega (arith, behind-last at (leb-false at mostBytes e), leb-false at mostBytes e) in f)
+    go : (t : Bool) → leb at mostBytes ≡ t → (behind at ≤ at + 1) × (behind at ≤ mostBytes → behind at ≡ at + 1)
+    go true e = let n = behind-next at (leb-true at mostBytes e) in (omega arith, λ h. n)
+    go false e =
+        let past = leb-false at mostBytes e in
+        let l = behind-last at past in
+        (omega arith, λ h. omega arith)
 
 -- a character inside the room, and outside
 pub adds-inside : (d : List ℕ) (at next character : ℕ) → at < length d → next ≡ behind at
@@ -57,9 +53,9 @@ unfolding addsAll
 one s character = refl
 
 -- a text behind a text
-pub both : (s t u : State) (a b : List ℕ) → t ≡ addsAll s a → u ≡ addsAll t b → u ≡ addsAll s (a ++ b)
+pub both : {t u : State} (s : State) (a b : List ℕ) → t ≡ addsAll s a → u ≡ addsAll t b → u ≡ addsAll s (a ++ b)
 unfolding addsAll
-both s t u a b e g = g ∙ ap (λ (x : State). addsAll x b) e ∙ sym (foldl-append adds s a b)
+both s a b e g = g ∙ ap (λ (x : State). addsAll x b) e ∙ sym (foldl-append adds s a b)
 
 -- a text character by character: the next one, and the end
 module _ (word : List ℕ) where
@@ -77,23 +73,27 @@ pub fits : (d : List ℕ) (at : ℕ) (text : List ℕ) → length d ≤ mostByte
 unfolding addsAll
 fits d at [] h g =
     let z : at ≡ at + 0 = omega arith in
-    λ i. (sym (over-nil d at) i, z i)
+    rw (over-nil d at, ← z)
 fits d at (b ∷ text) h g =
     let k : at + 1 + length text ≡ at + suc (length text) = omega arith in
-    ap (λ (s : State). addsAll s text) (sym (adds-inside d at (at + 1) b (omega arith) (sym (behind-next at (omega arith)))))
-    ∙ fits (set d at b) (at + 1) text (omega (arith, length-set d at b)) (omega (arith, length-set d at b))
-    ∙ (λ i. ((ap (λ (x : List ℕ). over x (at + 1) text) (set-over d at b (omega arith)) ∙ over-over d at (b ∷ []) text (omega arith)) i, k i))
+    rw (
+      ← adds-inside d at (at + 1) b (omega arith) (sym (behind-next at (omega arith))),
+      fits (set d at b) (at + 1) text (omega (arith, length-set d at b)) (omega (arith, length-set d at b)),
+      set-over d at b (omega arith),
+      over-over d at (b ∷ []) text (omega arith),
+      k,
+    )
 
 -- where it stops counting: a text counts as many characters as it has, up to more than the most bytes of a room
 module _ (n : ℕ) where
   pub counts-most : (s : State) (text : List ℕ) → addsAll s text .1 ≡ n → n ≤ s .1 + length text
   unfolding addsAll adds
   counts-most s [] e = omega arith
-  counts-most s (b ∷ text) e = omega (arith, counts-most (adds s b) text e, behind-most (s .1))
+  counts-most s (b ∷ text) e = omega (arith, counts-most (adds s b) text e, behind-is (s .1) .0)
 
   pub counts : (s : State) (text : List ℕ) → addsAll s text .1 ≡ n → n ≤ mostBytes → n ≡ s .1 + length text
   unfolding addsAll adds
   counts s [] e h = omega arith
   counts s (b ∷ text) e h =
       let rest : n ≡ behind (s .1) + length text = counts (adds s b) text e h in
-      omega (arith, rest, behind-exact (s .1) n h (omega (arith, rest)))
+      omega (arith, rest, behind-is (s .1) .1 (omega (arith, rest)))

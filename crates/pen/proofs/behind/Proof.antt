@@ -2,18 +2,15 @@
 -- Assumes nothing.
 use mathlib.Core.Path.{sym}
 use borrow.Author.Needs.{needs}
-use Rattle.lines.proofs.Adding.{behind-next, behind-last}
-use Rattle.lines.proofs.pen.behind.Statement.{statement}
-use Rattle.lines.proofs.pen.behind.Tie as tie
+use Rattle.pen.proofs.Adding.{behind-next, behind-last}
+use Rattle.pen.proofs.behind.Statement.{statement}
+use Rattle.pen.proofs.behind.Tie as tie
 
 returns : tie.Need-returns
 returns c = sym (behind-last (c .before .args .at) (search needs))
-
-add-result : tie.Need-add-result
-add-result c = search needs
 
 returns-2 : tie.Need-returns-2
 returns-2 c = sym (behind-next (c .before .args .at) (search needs))
 
 pub behind-spec : {M : Type 1} → statement M
-behind-spec = tie.close (tie.spec returns add-result returns-2)
+behind-spec = tie.close (tie.spec returns (λ c. search needs) returns-2)

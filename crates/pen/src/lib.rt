@@ -1,9 +1,8 @@
 // A text that is added to at a place of a room. What does not fit is counted and not written; so a text is measured by adding it to a
 // room that is too small.
 ghost use mathlib.Core.Path.{_≡_};
-ghost use Rattle.lines.specs.Listing.{decimal, named, spaced};
-ghost use Rattle.lines.specs.Words.{space};
-ghost use Rattle.lines.specs.Adding.{behind, adds, addsAll};
+ghost use Rattle.pen.specs.Texts.{space, decimal, named, spaced};
+ghost use Rattle.pen.specs.Adding.{behind, adds, addsAll};
 use limits::MOST_BYTES;
 
 // Adds one character, and answers the place of the next.
@@ -28,7 +27,7 @@ fn behind(at: usize) -> usize
 }
 
 // Adds a word.
-pub(crate) fn put_word(text: &mut [u8], at: usize, word: &[u8]) -> usize
+pub fn put_word(text: &mut [u8], at: usize, word: &[u8]) -> usize
     ensures { λ r. ⌜ (now (text .exit), r) ≡ addsAll (now (text .entry), at) (now (word .entry)) ⌝ }
 {
     let mut to = at;
@@ -41,7 +40,7 @@ pub(crate) fn put_word(text: &mut [u8], at: usize, word: &[u8]) -> usize
 }
 
 // Adds a number in decimal.
-pub(crate) fn put_decimal(text: &mut [u8], at: usize, number: usize) -> usize
+pub fn put_decimal(text: &mut [u8], at: usize, number: usize) -> usize
     ensures { λ r. ⌜ (now (text .exit), r) ≡ addsAll (now (text .entry), at) (decimal number) ⌝ }
 {
     if number < 10 {
@@ -52,7 +51,7 @@ pub(crate) fn put_decimal(text: &mut [u8], at: usize, number: usize) -> usize
 }
 
 // Adds a word, and a number behind it.
-pub(crate) fn put_named(text: &mut [u8], at: usize, word: &[u8], number: usize) -> usize
+pub fn put_named(text: &mut [u8], at: usize, word: &[u8], number: usize) -> usize
     ensures { λ r. ⌜ (now (text .exit), r) ≡ addsAll (now (text .entry), at) (named (now (word .entry)) number) ⌝ }
 {
     let to = put_word(text, at, word);
@@ -60,7 +59,7 @@ pub(crate) fn put_named(text: &mut [u8], at: usize, word: &[u8], number: usize) 
 }
 
 // Adds bytes, each behind a space.
-pub(crate) fn put_spaced(text: &mut [u8], at: usize, bytes: &[u8]) -> usize
+pub fn put_spaced(text: &mut [u8], at: usize, bytes: &[u8]) -> usize
     ensures { λ r. ⌜ (now (text .exit), r) ≡ addsAll (now (text .entry), at) (spaced (now (bytes .entry))) ⌝ }
 {
     let mut to = at;

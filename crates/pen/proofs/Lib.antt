@@ -1,0 +1,3 @@
+pub mod Adding
+pub mod Texts
+pub mod Unique
