@@ -5,3 +5,4 @@ pub mod Writing
 pub mod Lists
 pub mod Examples
 pub mod Incident
+pub mod Worked

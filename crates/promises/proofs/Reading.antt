@@ -4,17 +4,17 @@ use mathlib.Core.Path.{_≡_, sym, ap, _∙_}
 use Prim.Native.Nat.{ℕ, zero, suc, _^_, _<_}
 use mathlib.Core.List.{List, [], _∷_}
 use lib.Dec.{lit<}
-use lib.ListN.{length, getD}
+use lib.ListN.{length, getD, take}
 use lib.Seq.{take-all}
 use native.Mathlib.Omega.{arith}
-use lib.IntN.{ℤ, pos}
+use lib.IntN.{ℤ}
 use Rattle.facts.specs.BigEndian.{number, digits, signed, unsigned}
 use Rattle.facts.specs.Ranges.{within, lookup}
 use Rattle.facts.proofs.BigEndian.{number-below, writes-back}
 use Rattle.facts.proofs.Signs.{unsigned-back}
 use Rattle.rfc.specs.Numbers.{given}
 use Rattle.rfc.specs.Kinds.{kinds, kindOf}
-use Rattle.rfc.specs.Values.{Content, raw, natural, integer, truth, numbers, nothing, Value, Mode, read}
+use Rattle.rfc.specs.Values.{integer, Value, Mode, read}
 use Rattle.rfc.specs.Lists.{Bytes}
 use Rattle.rfc.proofs.Values.{i32, scalar-value}
 use Rattle.rfc.proofs.Readings.{strict-plain, read-right}
@@ -33,22 +33,15 @@ byte-below [] b i = lit< tt
 byte-below (x ∷ v) b zero = b .0
 byte-below (x ∷ v) b (suc i) = byte-below v (b .1) i
 
--- the number that a value holds
-held : Content → ℤ
-held (raw v) = pos 0
-held (natural n) = pos 0
-held (integer z) = z
-held (truth t) = pos 0
-held (numbers l) = pos 0
-held nothing = pos 0
-
 -- what the code 2 reads as is the number of its four bytes
 is-number : (mode : Mode) (v : List ℕ) (z : ℤ) → length v ≡ 4 → read mode 2 v ≡ given (record { kind = 9; content = integer z })
     → signed (number v) ≡ z
-unfolding held within lookup kinds kindOf
+unfolding within lookup kinds kindOf
 is-number mode v z long e =
-    ap (λ (l : List ℕ). signed (number l)) (sym (take-all 4 v (omega arith)))
-    ∙ ap (λ (x : Value). held (x .content)) (sym (scalar-value v i32) ∙ read-right mode 2 v _ e .1)
+    let held : integer (signed (number (take 4 v))) ≡ integer z =
+    ap (λ (x : Value). x .content) (sym (scalar-value v i32) ∙ read-right mode 2 v _ e .1) in
+    let same : signed (number (take 4 v)) ≡ z = cc in
+    ap (λ (l : List ℕ). signed (number l)) (sym (take-all 4 v (omega arith))) ∙ same
 
 pub seconds-write-back : SecondsWriteBack
 seconds-write-back mode v z b long e =

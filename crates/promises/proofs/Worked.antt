@@ -1,0 +1,74 @@
+-- The worked examples of docs/READING.md hold: both sides of an equation are computed, and what is none is shown by its numbers.
+-- Assumes nothing.
+use mathlib.Core.Path.{refl}
+use mathlib.Core.List.{[], _∷_, flatten}
+use native.Mathlib.Omega.{arith}
+use lib.Dec.{lit<}
+use Rattle.facts.specs.Over.{over}
+use Rattle.facts.specs.Pieces.{piecesIn, pieces}
+use Rattle.facts.specs.Ranges.{within, lookup}
+use Rattle.rfc.specs.Numbers.{andThen, tooLong, tooShort, pastEnd, noElement, noCode, tooMuch, noRoom, checked, firstRefusal}
+use Rattle.rfc.specs.Header.{messageChecks, magicRight, area, field, chaddrPart, chaddrCut, chaddrChecks, chaddr, untilZero, textField, sname}
+use Rattle.rfc.specs.Walk.{extend, furtherIn, further, joined, behind, walk, roomFor, stepChecks, step, joinAfter, placeAfter, end}
+use Rattle.rfc.specs.Kinds.{kinds, kindOf, sizes, sizeOf}
+use Rattle.rfc.specs.Text.{forms, lead, owes, whole, utf8From, utf8}
+use Rattle.rfc.specs.Values.{numbersOf, widthOf, contents, valueOf, rules, ruleFor, wrongLength, notText, unclear, readChecks, read, elements, elementAt, element, nodeOf, readFound, readOption}
+use Rattle.rfc.specs.Writing.{partsOf, encode, writeChecks, answerTo, roomLeft, roomAfter, writeSlice, writeBytes, intoRoom, close}
+use Rattle.rfc.specs.Typed.{Below, digitsOf, partSize, encodeKind, otherKind, oddPairs, codeChecks, valueChecks, writeKind, writeValue, u16, noNumbers}
+use Rattle.rfc.specs.Routes.{significant, routeBytes, routesBytes, tooWide, writeRoutes}
+use Rattle.rfc.specs.Lists.{Good, encodeAll, does, writeAll, onward, listIn, listing, atStop}
+use Rattle.promises.specs.Order.{follows}
+use Rattle.promises.specs.Worked.{abc, OfGeneral, OfNumbers, OfHeader, OfWalk, OfKinds, OfText, OfValues, OfWriting, OfTyped, OfRoutes, OfLists}
+
+pub of-general : OfGeneral
+unfolding over piecesIn pieces within lookup
+of-general = (refl, refl, refl, refl, refl, refl, refl)
+
+pub of-numbers : OfNumbers
+unfolding piecesIn pieces within lookup andThen tooLong tooShort pastEnd noElement noCode tooMuch noRoom checked firstRefusal extend furtherIn further joined behind walk roomFor stepChecks step kinds kindOf sizes sizeOf rules ruleFor wrongLength readChecks read partsOf encode follows
+of-numbers = (refl, refl, refl, refl, refl, refl, refl, refl, refl, refl, refl, refl, refl, refl)
+
+pub of-header : OfHeader
+unfolding tooLong tooShort checked messageChecks field chaddrPart chaddrCut chaddrChecks chaddr untilZero textField sname magicRight area
+of-header = (refl, refl, refl, refl, refl, refl, refl, refl, refl, refl, refl, refl, refl, refl, refl, refl)
+
+pub of-walk : OfWalk
+unfolding over tooLong pastEnd checked extend furtherIn further joined behind walk roomFor stepChecks step joinAfter placeAfter
+of-walk = (refl, refl, refl, refl, refl, refl, refl, refl, refl, refl, refl, refl, refl, refl, refl)
+
+pub of-kinds : OfKinds
+unfolding within lookup kinds kindOf sizes sizeOf
+of-kinds = (refl, refl, refl, refl)
+
+pub of-text : OfText
+unfolding within lookup forms lead owes whole utf8From utf8
+of-text = (refl, refl, refl, refl, refl, refl)
+
+pub of-values : OfValues
+unfolding piecesIn pieces within lookup andThen tooLong noElement noCode checked kinds kindOf sizes sizeOf forms lead owes whole utf8From utf8 numbersOf widthOf contents valueOf rules ruleFor wrongLength notText unclear readChecks read elements elementAt element nodeOf readFound readOption
+of-values = (refl, refl, refl, refl, refl, refl, refl, refl, refl, refl, refl, refl, refl, refl, refl, refl, refl, refl, refl, refl)
+
+pub of-writing : OfWriting
+unfolding over piecesIn pieces tooLong pastEnd noCode tooMuch noRoom checked partsOf encode writeChecks answerTo roomLeft roomAfter writeSlice writeBytes intoRoom close
+of-writing = (refl, refl, refl, refl, refl, refl, refl, refl)
+
+-- a list of codes, each below 256
+of-below : Below 256 (1 ∷ 3 ∷ 6 ∷ [])
+of-below = (lit< tt, (lit< tt, (lit< tt, tt)))
+
+pub of-typed : OfTyped
+unfolding piecesIn pieces within lookup tooLong pastEnd noCode tooMuch noRoom checked kinds kindOf sizes sizeOf widthOf notText partsOf encode writeChecks answerTo digitsOf partSize encodeKind otherKind oddPairs codeChecks valueChecks writeKind writeValue flatten
+of-typed =
+    (refl, refl, refl, refl, refl, refl, refl, refl, u16 1500 (lit< tt), lit< tt, of-below, noNumbers, (λ e. omega arith))
+
+pub of-routes : OfRoutes
+unfolding piecesIn pieces partsOf encode significant routeBytes routesBytes tooWide writeRoutes
+of-routes = (refl, refl, refl, refl)
+
+-- an option of code 12 with three bytes
+abc-good : Good abc
+abc-good = record { low = omega arith; high = omega arith; some = omega arith; most = omega arith }
+
+pub of-lists : OfLists
+unfolding over piecesIn pieces andThen tooLong pastEnd noCode tooMuch noRoom checked extend furtherIn further joined behind walk roomFor stepChecks step partsOf encode writeChecks answerTo roomLeft roomAfter writeBytes intoRoom close encodeAll does writeAll onward listIn listing
+of-lists = ((abc-good, tt, tt), (lit< tt, (lit< tt, tt)), refl, refl, refl, atStop end 6)

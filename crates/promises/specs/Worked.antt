@@ -1,0 +1,193 @@
+-- The worked examples of docs/READING.md, a statement for each of its tables: each example is computed from the definitions.
+-- `tools/reading` holds the page against this file.
+-- Assumes nothing.
+use Prim.Native.Nat.{ℕ, _+_}
+use mathlib.Core.Path.{_≡_}
+use mathlib.Core.Bool.{true, false}
+use mathlib.Core.List.{List, [], _∷_, _++_}
+use mathlib.Core.Option.{none, some}
+use lib.IntN.{negsuc}
+use lib.ListN.{length, replicate}
+use Rattle.facts.specs.Over.{over}
+use Rattle.facts.specs.Pieces.{pieces}
+use Rattle.facts.specs.Ranges.{lookup, row}
+use Rattle.facts.specs.BigEndian.{digits, number, signed, unsigned}
+use Rattle.rfc.specs.Numbers.{andThen, check, checked, firstRefusal, given, mostPart, needs, noCode, noElement, noRoom, order, pastEnd, refused, tooLong, tooMuch, tooShort}
+use Rattle.rfc.specs.Header.{area, chaddr, chaddrPart, field, fileField, flags, hlen, magic, magicField, magicRight, options, part, sname, untilZero, wrongMagic, xid, yiaddr}
+use Rattle.rfc.specs.Walk.{behind, cut, cutContinuation, cutLength, cutValue, end, extend, further, joinAfter, joined, option, out, placeAfter, roomFor, run, step, stop, walk}
+use Rattle.rfc.specs.Kinds.{from, has, kindOf, only, sizeOf}
+use Rattle.rfc.specs.Text.{lead, owes, tail, utf8}
+use Rattle.rfc.specs.Values.{Content, Value, atLeast, breaks, element, elementAt, elements, exactly, hNode, integer, multiple, natural, nodeOf, notText, nothing, numbers, numbersOf, plain, read, readOption, ruleFor, stopped, strict, truth, unclear, unknown, valueOf, valued, widthOf, wrongLength}
+use Rattle.rfc.specs.Writing.{answerTo, close, encode, partsOf, roomAfter, writeBytes, writeSlice}
+use Rattle.rfc.specs.Typed.{Apart, Below, Empty, Proper, Seconds, encodeKind, oddPairs, otherKind, partSize, writeValue}
+use Rattle.rfc.specs.Routes.{routeBytes, significant, tooWide, writeRoutes}
+use Rattle.rfc.specs.Lists.{Bytes, Ending, Opt, Valid, encodeAll, finished, listing, writeAll}
+use Rattle.rfc.specs.Header as Header
+use Rattle.rfc.specs.Typed as Typed
+use Rattle.promises.specs.Order.{follows}
+use Rattle.promises.specs.Lists.{listed}
+use Rattle.promises.specs.Examples.{via}
+use Rattle.promises.specs.Incident.{incident}
+
+-- a value of a kind that holds this
+abbrev pub value : ℕ → Content → Value
+value kind content = record { kind = kind; content = content }
+
+-- a reply with xid 42, secs 3, the broadcast flag, yiaddr 192.0.2.17, the address 2:0:0:0:0:1, "boot" in sname, and one option: an ACK
+abbrev pub sample : List ℕ
+sample =
+    (2 ∷ 1 ∷ 6 ∷ 0 ∷ 0 ∷ 0 ∷ 0 ∷ 42 ∷ 0 ∷ 3 ∷ 128 ∷ 0 ∷ [])
+    ++ replicate 4 0 ++ (192 ∷ 0 ∷ 2 ∷ 17 ∷ []) ++ replicate 8 0
+    ++ (2 ∷ 0 ∷ 0 ∷ 0 ∷ 0 ∷ 1 ∷ []) ++ replicate 10 0
+    ++ (98 ∷ 111 ∷ 111 ∷ 116 ∷ []) ++ replicate 188 0
+    ++ magic ++ (53 ∷ 1 ∷ 5 ∷ 255 ∷ [])
+
+-- code 12 with "abc"
+abbrev pub abc : Opt
+abc = record { code = 12; value = 97 ∷ 98 ∷ 99 ∷ [] }
+
+abbrev pub OfGeneral : Type 0
+OfGeneral =
+    (over (1 ∷ 2 ∷ 3 ∷ 4 ∷ []) 1 (8 ∷ 9 ∷ []) ≡ 1 ∷ 8 ∷ 9 ∷ 4 ∷ [])
+    × (pieces 2 (1 ∷ 2 ∷ 3 ∷ []) ≡ (1 ∷ 2 ∷ []) ∷ (3 ∷ []) ∷ [])
+    × (lookup false (row 3 11 true ∷ []) 7 ≡ true)
+    × (number (5 ∷ 220 ∷ []) ≡ 1500)
+    × (digits 2 1500 ≡ 5 ∷ 220 ∷ [])
+    × (signed 0xffffc7c0 ≡ negsuc 14399)
+    × (unsigned (negsuc 0) ≡ 4294967295)
+
+abbrev pub OfNumbers : Type 0
+OfNumbers =
+    (step (12 ∷ 1 ∷ 65 ∷ 12 ∷ 1 ∷ 66 ∷ []) 0 1 ≡ needs 2)
+    × (andThen (read plain 1 (7 ∷ [])) (elementAt 0) ≡ refused 10)
+    × (tooShort (replicate 239 0) ≡ true)
+    × (tooLong (replicate 65536 0) ≡ true)
+    × (pastEnd 3 (12 ∷ 0 ∷ []) ≡ true)
+    × (pastEnd 2 (12 ∷ 0 ∷ []) ≡ false)
+    × (noElement 2 2 ≡ true)
+    × (noCode 255 ≡ true)
+    × (tooMuch (replicate 4081 7) ≡ true)
+    × (length (encode mostPart 12 (replicate 256 7)) ≡ 260)
+    × (noRoom (0 ∷ 0 ∷ []) 1 (12 ∷ 0 ∷ []) ≡ true)
+    × (checked (check false 2 ∷ check true 4 ∷ check true 6 ∷ []) (given true) ≡ refused 4)
+    × (firstRefusal (check false 2 ∷ check true 4 ∷ check true 6 ∷ []) ≡ 4)
+    × (follows (2 ∷ 4 ∷ 8 ∷ []) order ≡ true)
+
+abbrev pub OfHeader : Type 0
+OfHeader =
+    (Header.bytesOf (part 1 2) (7 ∷ 8 ∷ 9 ∷ 10 ∷ []) ≡ 8 ∷ 9 ∷ [])
+    × (field hlen sample ≡ given 6)
+    × (field xid sample ≡ given 42)
+    × (field flags sample ≡ given 32768)
+    × (field yiaddr sample ≡ given 0xc0000211)
+    × (fileField .start + fileField .len ≡ magicField .start)
+    × (magicField ≡ part 236 4)
+    × (field xid (replicate 239 0) ≡ refused 1)
+    × (chaddrPart sample ≡ part 28 6)
+    × (chaddr sample ≡ given (part 28 6))
+    × (chaddr incident ≡ refused 3)
+    × (untilZero (97 ∷ 98 ∷ 0 ∷ 99 ∷ []) ≡ 2)
+    × (sname sample ≡ given (part 44 4))
+    × (magicRight sample ≡ true)
+    × (area sample ≡ given (options (part 240 4)))
+    × (area (replicate 240 0) ≡ given wrongMagic)
+
+abbrev pub OfWalk : Type 0
+OfWalk =
+    (walk 0 (12 ∷ 1 ∷ 65 ∷ 255 ∷ []) ≡ option 12 (65 ∷ []) 1 3)
+    × (extend (65 ∷ []) (run 1 (66 ∷ [])) ≡ run 2 (65 ∷ 66 ∷ []))
+    × (further 12 (12 ∷ 1 ∷ 66 ∷ 255 ∷ []) ≡ run 1 (66 ∷ []))
+    × (further 12 (0 ∷ 12 ∷ 1 ∷ 66 ∷ []) ≡ run 0 [])
+    × (joined 12 (65 ∷ []) 3 (run 1 (66 ∷ [])) ≡ option 12 (65 ∷ 66 ∷ []) 2 6)
+    × (joined 12 (65 ∷ []) 3 cut ≡ stop cutContinuation 3)
+    × (behind 12 1 [] ≡ stop cutLength 1)
+    × (behind 12 1 (5 ∷ 65 ∷ []) ≡ stop cutValue 2)
+    × (walk 0 (0 ∷ 255 ∷ []) ≡ stop end 2)
+    × (walk 2 [] ≡ stop out 2)
+    × (roomFor 1 (option 12 (65 ∷ 66 ∷ []) 2 6) ≡ needs 2)
+    × (step (12 ∷ 0 ∷ 255 ∷ []) 2 0 ≡ given (stop end 3))
+    × (step (12 ∷ []) 2 0 ≡ refused 4)
+    × (joinAfter (given (option 12 (65 ∷ 66 ∷ []) 2 6)) (9 ∷ 9 ∷ 9 ∷ []) ≡ 65 ∷ 66 ∷ 9 ∷ [])
+    × (placeAfter (refused 2) 7 ≡ 7)
+
+abbrev pub OfKinds : Type 0
+OfKinds =
+    (has 3 (only 21 ∷ from 33 34 ∷ []) ≡ row 21 21 3 ∷ row 33 34 3 ∷ [])
+    × (kindOf 53 ≡ 13)
+    × (kindOf 61 ≡ 0)
+    × (sizeOf 3 ≡ 8)
+
+abbrev pub OfText : Type 0
+OfText =
+    (lead 0xc3 ≡ some (tail ∷ []))
+    × (lead 0xc0 ≡ none)
+    × (owes (some (tail ∷ [])) 0xa9 ≡ some [])
+    × (owes (some (tail ∷ [])) 0x41 ≡ none)
+    × (utf8 (0xc3 ∷ 0xa9 ∷ []) ≡ true)
+    × (utf8 (0xc3 ∷ []) ≡ false)
+
+abbrev pub OfValues : Type 0
+OfValues =
+    (valueOf 15 [] ≡ value 15 nothing)
+    × (numbersOf 2 (0 ∷ 68 ∷ 1 ∷ 40 ∷ []) ≡ 68 ∷ 296 ∷ [])
+    × (widthOf 3 ≡ 4)
+    × (valueOf 6 (5 ∷ 220 ∷ 9 ∷ []) ≡ value 6 (natural 1500))
+    × (valueOf 9 (255 ∷ 255 ∷ 199 ∷ 192 ∷ []) ≡ value 9 (integer (negsuc 14399)))
+    × (breaks multiple 4 6 ≡ true)
+    × (ruleFor plain 8 ≡ atLeast)
+    × (ruleFor strict 8 ≡ exactly)
+    × (wrongLength plain 7 (0 ∷ 68 ∷ 1 ∷ []) ≡ true)
+    × (notText 10 (255 ∷ []) ≡ true)
+    × (unclear strict 5 (2 ∷ []) ≡ true)
+    × (unclear plain 5 (2 ∷ []) ≡ false)
+    × (read plain 19 (2 ∷ []) ≡ given (value 5 (truth false)))
+    × (read strict 53 (5 ∷ 0 ∷ []) ≡ refused 10)
+    × (elements (valueOf 3 (10 ∷ 0 ∷ 0 ∷ 1 ∷ 10 ∷ 0 ∷ 0 ∷ 2 ∷ [])) ≡ (0x0a000001 ∷ 0x0a000002 ∷ []) ∷ [])
+    × (element 1 (read plain 3 (10 ∷ 0 ∷ 0 ∷ 1 ∷ [])) ≡ refused 4)
+    × (nodeOf 8 ≡ hNode)
+    × (nodeOf 3 ≡ unknown 3)
+    × (readOption plain (given (stop end 6)) ≡ given (stopped end 6))
+    × (readOption strict (given (option 53 (5 ∷ []) 1 3)) ≡ given (valued 53 (value 13 (natural 5)) 3))
+
+abbrev pub OfWriting : Type 0
+OfWriting =
+    (partsOf 12 ((97 ∷ 98 ∷ []) ∷ (99 ∷ []) ∷ []) ≡ 12 ∷ 2 ∷ 97 ∷ 98 ∷ 12 ∷ 1 ∷ 99 ∷ [])
+    × (encode 255 12 [] ≡ [])
+    × (answerTo (close (0 ∷ 0 ∷ []) 1) (0 ∷ 0 ∷ []) 1 ≡ given 2)
+    × (answerTo (close (0 ∷ 0 ∷ []) 2) (0 ∷ 0 ∷ []) 2 ≡ refused 8)
+    × (roomAfter (close (0 ∷ 0 ∷ []) 1) (0 ∷ 0 ∷ []) 1 ≡ 0 ∷ 255 ∷ [])
+    × (roomAfter (writeSlice (7 ∷ []) (0 ∷ 0 ∷ []) 0) (0 ∷ 0 ∷ []) 0 ≡ 7 ∷ 0 ∷ [])
+    × (writeBytes 224 (7 ∷ []) (0 ∷ 0 ∷ 0 ∷ []) 0 .bytes ≡ 224 ∷ 1 ∷ 7 ∷ [])
+    × (close (0 ∷ []) 0 .bytes ≡ 255 ∷ [])
+
+abbrev pub OfTyped : Type 0
+OfTyped =
+    (Typed.bytesOf (value 7 (numbers (68 ∷ 296 ∷ []))) ≡ 0 ∷ 68 ∷ 1 ∷ 40 ∷ [])
+    × (Typed.bytesOf (value 5 (truth true)) ≡ 1 ∷ [])
+    × (partSize 3 ≡ 248)
+    × (encodeKind 15 80 [] ≡ 80 ∷ 0 ∷ [])
+    × (otherKind 1 3 ≡ true)
+    × (oddPairs 3 (10 ∷ 0 ∷ 0 ∷ 1 ∷ []) ≡ true)
+    × (answerTo (writeValue 53 (value 13 (natural 5)) (0 ∷ 0 ∷ 0 ∷ []) 0) (0 ∷ 0 ∷ 0 ∷ []) 0 ≡ given 3)
+    × (answerTo (writeValue 12 (value 13 (natural 5)) (0 ∷ 0 ∷ 0 ∷ []) 0) (0 ∷ 0 ∷ 0 ∷ []) 0 ≡ refused 9)
+    × (Proper 6 (natural 1500))
+    × (Seconds (negsuc 2147483647))
+    × (Below 256 (1 ∷ 3 ∷ 6 ∷ []))
+    × (Empty (numbers []))
+    × (Apart 12 (255 ∷ 12 ∷ []))
+
+abbrev pub OfRoutes : Type 0
+OfRoutes =
+    (significant 9 ≡ 2)
+    × (routeBytes (via 8 0x0a000000) ≡ 8 ∷ 10 ∷ 192 ∷ 0 ∷ 2 ∷ 1 ∷ [])
+    × (tooWide (via 24 0 ∷ via 33 0 ∷ []) ≡ true)
+    × (writeRoutes (via 0 0 ∷ []) [] 0 .bytes ≡ 121 ∷ 5 ∷ 0 ∷ 192 ∷ 0 ∷ 2 ∷ 1 ∷ [])
+
+abbrev pub OfLists : Type 0
+OfLists =
+    (Valid (abc ∷ []))
+    × (Bytes (0 ∷ 255 ∷ []))
+    × (encodeAll (abc ∷ []) ≡ 12 ∷ 3 ∷ 97 ∷ 98 ∷ 99 ∷ 255 ∷ [])
+    × (writeAll (abc ∷ []) (replicate 7 0) 0 ≡ finished (12 ∷ 3 ∷ 97 ∷ 98 ∷ 99 ∷ 255 ∷ 0 ∷ []) 6)
+    × (listing (12 ∷ 3 ∷ 97 ∷ 98 ∷ 99 ∷ 255 ∷ 7 ∷ []) 0 ≡ listed (abc ∷ []) 6)
+    × (Ending (given (stop end 6)))
