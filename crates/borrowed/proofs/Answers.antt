@@ -1,88 +1,76 @@
 -- Each answer of a step says what the definitions say.
 -- Assumes nothing.
-use mathlib.Core.Path.{_≡_, refl, sym, ap, _∙_, subst}
+use mathlib.Core.Path.{_≡_, refl, sym, ap, _∙_}
 use Prim.Native.Nat.{ℕ, _+_, _-_, _*_, _≤_, _<_}
 use native.Mathlib.Omega.{arith}
 use mathlib.Core.List.{List, [], _++_}
-use lib.ListN.{length, take, drop, length-append}
+use lib.ListN.{length, take, drop, getD, length-append, length-drop}
+use lib.Seq.{length-take-le}
 use Rattle.facts.specs.Over.{over}
 use Rattle.facts.proofs.Over.{length-over, shown-over}
 use Rattle.rfc.specs.Numbers.{Answer, given, refused, needs}
 use Rattle.rfc.specs.Walk as rfc
-use Rattle.rfc.specs.Walk.{run, further, joined, roomFor, look, step, joinAfter, placeAfter, stop, option}
-use Rattle.rfc.proofs.Walk.{step-found, step-refused, step-needs, stop-moves, option-moves, refused-stays, needs-stays, joined-run, stop-answered, stop-keeps, refused-keeps, needs-keeps, one-answered, one-keeps, many-answered, many-joined, many-needs}
-use Rattle.rfc.proofs.Places.{Stands, look-stands}
-use Rattle.borrowed.specs.Walked.{values, valueBefore, stopOf, stopBack, sizes, sizeOf, Walked, Parted, AtPart, says, placeOf}
+use Rattle.rfc.specs.Walk.{run, further, walk, roomFor, look, step, joinAfter, placeAfter, stop, option}
+use Rattle.rfc.proofs.Walk.{step-found, step-refused, step-needs, stop-moves, option-moves, refused-stays, needs-stays}
+use Rattle.rfc.proofs.Walk.{joined-cut, joined-run, stop-answered, stop-keeps, refused-keeps, needs-keeps}
+use Rattle.rfc.proofs.Walk.{one-answered, one-keeps, many-answered, many-joined, many-needs}
+use Rattle.rfc.proofs.Places.{Stands, look-stands, whole-at}
+use Rattle.borrowed.specs.Walked.{values, valueBefore, stopOf, stopBack, sizes, sizeOf, Inside, Walked, Parted, AtPart, says, placeOf}
 use Rattle.borrowed.specs.declared.answer.Stop.{Stop}
+use Rattle.borrowed.specs.declared.answer.Stop.the-variants.{CutContinuation}
 use Rattle.borrowed.specs.declared.answer.Step.{Step}
 use Rattle.borrowed.specs.declared.answer.Step.the-variants.{Stopped, Found, Refused, Needs}
-use Rattle.borrowed.specs.declared.parts.Run.the-variants.{Whole}
-use Rattle.borrowed.proofs.Runs.{whole-is}
+use Rattle.borrowed.specs.declared.parts.Run.the-variants.{Cut, Whole}
+use Rattle.borrowed.proofs.Runs.{whole-is, cut-is, run-ends}
 use Rattle.borrowed.proofs.Shown.{part-there, shown-one, shown-many}
-
--- an answer, by what the definitions say
-module _ (area join : List ℕ) (a : Answer rfc.Found) where
-  stopped : (s : Stop) (at : ℕ) → a ≡ given (stop (stopOf s) at) → Walked area join join (Stopped s at) a
-  stopped s at e =
-      record { told = sym e; inside = tt; kept = sym (ap (λ (x : Answer rfc.Found). joinAfter x join) e ∙ stop-keeps join (stopOf s) at) }
-
-  refuses : (k : ℕ) → a ≡ refused k → Walked area join join (Refused k) a
-  refuses k e = record { told = sym e; inside = tt; kept = sym (ap (λ (x : Answer rfc.Found). joinAfter x join) e ∙ refused-keeps join k) }
-
-  asks : (n : ℕ) → a ≡ needs n → Walked area join join (Needs n) a
-  asks n e = record { told = sym e; inside = tt; kept = sym (ap (λ (x : Answer rfc.Found). joinAfter x join) e ∙ needs-keeps join n) }
-
-  module _ (code : ℕ) (v : List ℕ) (parts len place : ℕ) (e : a ≡ given (option code v parts place)) where
-    finds-one : parts ≤ 1 → len ≤ place → place ≤ length area → take len (drop (place - len) area) ≡ v
-        → Walked area join join (Found code parts len place) a
-    finds-one p h g s =
-        let there = part-there area (place - len) len (omega arith) in
-        record {
-          told = ap (λ (x : List ℕ). given (option code x parts place)) (shown-one parts len place area join p h ∙ there ∙ s) ∙ sym e;
-          inside = (h, g, λ k. absurd (let f : ⊥ = omega arith in f));
-          kept = sym (ap (λ (x : Answer rfc.Found). joinAfter x join) e ∙ one-keeps join code v parts place p);
-        }
-
-    finds-many : (join′ : List ℕ) → 1 < parts → len ≤ place → place ≤ length area → len ≡ length v → len ≤ length join
-        → join′ ≡ over join 0 v → Walked area join join′ (Found code parts len place) a
-    finds-many join′ p h g l f j =
-        let fits : 0 + length v ≤ length join = omega arith in
-        let long : length join′ ≡ length join = ap length j ∙ length-over join 0 v fits in
-        let there : take len join′ ≡ v = (λ i. take (l i) (j i)) ∙ shown-over join 0 v fits in
-        record {
-          told =
-              ap (λ (x : List ℕ). given (option code x parts place))
-              (shown-many parts len place area join′ p ∙ part-there join′ 0 len (omega arith) ∙ there)
-              ∙ sym e;
-          inside = (h, g, λ _. omega arith);
-          kept = j ∙ sym (ap (λ (x : Answer rfc.Found). joinAfter x join) e ∙ many-joined join code v parts place p);
-        }
-
--- the same answer by another name
-same-answer : {area join join′ : List ℕ} {s : Step} {a b : Answer rfc.Found} → a ≡ b
-    → Walked area join join′ s b → Walked area join join′ s a
-same-answer {area} {join} {join′} {s} e w = subst (λ (x : Answer rfc.Found). Walked area join join′ s x) (sym e) w
 
 -- what is found, by its numbers
 pub sized : {f g : rfc.Found} → f ≡ g → sizes (given g) ≡ sizes (given f)
 sized e = ap (λ (f : rfc.Found). sizes (given f)) (sym e)
 
--- an option of one part, and one with so many further ones
-pub finds-first : (code : ℕ) (v : List ℕ) (next len : ℕ) (r : rfc.Run) → length v ≡ len → r ≡ run 0 []
-    → Found code 1 len next ≡ sizes (given (joined code v next r))
-finds-first code v next len r l e =
-    let b : len ≡ length (v ++ []) = omega (arith, length-append v []) in
-    let c : next ≡ next + (2 * 0 + 0) = omega arith in
-    (λ i. Found code 1 (b i) (c i)) ∙ sized (joined-run code v next r 0 [] e)
+-- the place behind the part at a place
+abbrev pub behind : List ℕ → ℕ → ℕ
+behind area at = at + 2 + getD area (at + 1) 0
 
-pub finds-further : (code : ℕ) (v : List ℕ) (next len parts more : ℕ) (r : rfc.Run) → length v ≡ len → Whole parts more ≡ sizeOf r
-    → Found code (parts + 1) (len + more) (next + 2 * parts + more) ≡ sizes (given (joined code v next r))
-finds-further code v next len parts more r l e =
-    let w = whole-is parts more r e in
-    let b : len + more ≡ length (v ++ values r) = omega (arith, length-append v (values r), w .1) in
-    let c : next + 2 * parts + more ≡ next + (2 * parts + length (values r)) = omega (arith, w .1) in
-    (λ i. Found code (parts + 1) (b i) (c i))
-    ∙ sized (joined-run code v next r parts (values r) (w .0))
+-- at a place, which holds neither Pad nor End, a whole part begins
+pub record First (area : List ℕ) (at : ℕ) : Type 0 where
+  pub inside : at < length area
+  pub other : getD area at 0 ≡ 0 → ⊥
+  pub goes-on : getD area at 0 ≡ 255 → ⊥
+  pub within : behind area at ≤ length area
+
+-- what is found there, by the further parts
+module _ {area : List ℕ} {at : ℕ} (f : First area at) where
+  abbrev more : rfc.Run
+  more = further (getD area at 0) (drop (behind area at) area)
+
+  abbrev found : Step
+  found = sizes (given (walk at (drop at area)))
+
+  abbrev v : List ℕ
+  v = take (getD area (at + 1) 0) (drop (at + 2) area)
+
+  pub first-cut : Cut ≡ sizeOf more → Stopped CutContinuation (behind area at) ≡ found
+  first-cut e = sized (whole-at area at (f .inside) (f .other) (f .goes-on) (f .within) ∙ joined-cut _ v _ more (cut-is more e))
+
+  module _ {parts len : ℕ} (e : Whole parts len ≡ sizeOf more) where
+    pub first-ends : behind area at + (2 * parts + len) ≤ length area
+    first-ends = run-ends area (behind area at) (getD area at 0) parts len (f .within) e
+
+    pub first-more : Found (getD area at 0) (parts + 1) (getD area (at + 1) 0 + len) (behind area at + 2 * parts + len) ≡ found
+    first-more =
+        let w = whole-is parts len more e in
+        let l = length-take-le (getD area (at + 1) 0) (drop (at + 2) area) (omega (arith, f .within, length-drop (at + 2) area)) in
+        let a : getD area (at + 1) 0 + len ≡ length (v ++ values more) = omega (arith, length-append v (values more), w .1) in
+        let b : behind area at + 2 * parts + len ≡ behind area at + (2 * parts + length (values more)) = omega (arith, w .1) in
+        (λ i. Found (getD area at 0) (parts + 1) (a i) (b i))
+        ∙ sized (whole-at area at (f .inside) (f .other) (f .goes-on) (f .within) ∙ joined-run _ v _ more parts (values more) (w .0))
+
+  pub first-alone : more ≡ run 0 [] → Found (getD area at 0) 1 (getD area (at + 1) 0) (behind area at) ≡ found
+  first-alone e =
+      let a : getD area (at + 1) 0 ≡ getD area (at + 1) 0 + 0 = omega arith in
+      let b : behind area at ≡ behind area at + 2 * 0 + 0 = omega arith in
+      (λ i. Found (getD area at 0) 1 (a i) (b i)) ∙ first-more (sym (ap sizeOf e))
 
 -- back from its numbers to what was found
 stop-of : (s : rfc.Stop) → stopOf (stopBack s) ≡ s
@@ -95,121 +83,140 @@ stop-of rfc.cutContinuation = refl
 pub stopped-is : (s : Stop) (place : ℕ) (a : Answer rfc.Found) → Stopped s place ≡ sizes a → a ≡ given (stop (stopOf s) place)
 stopped-is s place (given (stop t at)) e =
     let back : stopBack t ≡ s = cc in
-    let name : t ≡ stopOf s = sym (stop-of t) ∙ ap stopOf back in
     let there : at ≡ place = cc in
-    λ i. given (stop (name i) (there i))
-stopped-is s place (given (option c v n at)) e = let z : _≡_ {A = ℕ} 0 1 = cc in absurd (let f : ⊥ = omega arith in f)
-stopped-is s place (refused k) e = let z : _≡_ {A = ℕ} 0 1 = cc in absurd (let f : ⊥ = omega arith in f)
-stopped-is s place (needs n) e = let z : _≡_ {A = ℕ} 0 1 = cc in absurd (let f : ⊥ = omega arith in f)
+    λ i. given (stop ((sym (stop-of t) ∙ ap stopOf back) i) (there i))
+stopped-is s place (given (option c v n at)) e = cc
+stopped-is s place (refused k) e = cc
+stopped-is s place (needs n) e = cc
 
 pub found-is : (code parts len place : ℕ) (a : Answer rfc.Found) → Found code parts len place ≡ sizes a
     → (v : List ℕ) × (a ≡ given (option code v parts place)) × (length v ≡ len)
-found-is code parts len place (given (stop s at)) e = let z : _≡_ {A = ℕ} 0 1 = cc in absurd (let f : ⊥ = omega arith in f)
+found-is code parts len place (given (stop s at)) e = ([], cc, cc)
 found-is code parts len place (given (option c v n at)) e = (v, cc, cc)
-found-is code parts len place (refused k) e = let z : _≡_ {A = ℕ} 0 1 = cc in absurd (let f : ⊥ = omega arith in f)
-found-is code parts len place (needs n) e = let z : _≡_ {A = ℕ} 0 1 = cc in absurd (let f : ⊥ = omega arith in f)
+found-is code parts len place (refused k) e = ([], cc, cc)
+found-is code parts len place (needs n) e = ([], cc, cc)
 
--- what is given is no refusal
-pub given-found : (f : rfc.Found) (k : ℕ) → Refused k ≡ sizes (given f) → ⊥
-given-found (stop s at) k e = let z : _≡_ {A = ℕ} 0 1 = cc in omega arith
-given-found (option c v n at) k e = let z : _≡_ {A = ℕ} 0 1 = cc in omega arith
+pub refused-is : (k : ℕ) (a : Answer rfc.Found) → Refused k ≡ sizes a → a ≡ refused k
+refused-is k (given (stop s at)) e = cc
+refused-is k (given (option c v n at)) e = cc
+refused-is k (refused j) e = cc
+refused-is k (needs n) e = cc
 
-pub given-whole : (f : rfc.Found) (n : ℕ) → Needs n ≡ sizes (given f) → ⊥
-given-whole (stop s at) k e = let z : _≡_ {A = ℕ} 0 1 = cc in omega arith
-given-whole (option c v n at) k e = let z : _≡_ {A = ℕ} 0 1 = cc in omega arith
+pub needs-is : (n : ℕ) (a : Answer rfc.Found) → Needs n ≡ sizes a → a ≡ needs n
+needs-is n (given (stop s at)) e = cc
+needs-is n (given (option c v k at)) e = cc
+needs-is n (refused k) e = cc
+needs-is n (needs m) e = cc
+
+-- an answer that leaves the join buffer
+stays : {area join : List ℕ} {a : Answer rfc.Found} (r : Step) → says r area join ≡ a → Inside r area join
+    → joinAfter (says r area join) join ≡ join → Walked area join join r a
+stays {join = join} r e i k = record { told = e; inside = i; kept = sym k ∙ ap (λ (x : Answer rfc.Found). joinAfter x join) e }
 
 -- what is no option is answered as it was found
-abbrev NoOption : Step → Type 0
-NoOption (Stopped s at) = Unit {0}
-NoOption (Found code parts len place) = ⊥
-NoOption (Refused k) = Unit {0}
-NoOption (Needs n) = Unit {0}
+module _ (area join : List ℕ) (place : ℕ) {r : Step} (looked : r ≡ sizes (look area place)) where
+  abbrev room : ℕ
+  room = length join
 
-module _ (area join : List ℕ) (place : ℕ) where
-  pub passes-on : (r : Step) → r ≡ sizes (look area place) → NoOption r → Walked area join join r (step area place (length join))
-  passes-on r e n = go (look area place) refl e
-    where
-      room : ℕ
-      room = length join
+  pub passes-stop : (s : Stop) (at : ℕ) → r ≡ Stopped s at → Walked area join join (Stopped s at) (step area place room)
+  passes-stop s at e =
+      let is = stopped-is s at (look area place) (sym e ∙ looked) in
+      stays (Stopped s at) (sym (step-found area place room _ is ∙ stop-answered room _ at)) tt (stop-keeps join _ at)
 
-      back : (q : Step) → r ≡ q → Walked area join join q (step area place room) → Walked area join join r (step area place room)
-      back q p w = subst (λ (x : Step). Walked area join join x (step area place room)) (sym p) w
+  pub passes-refused : (k : ℕ) → r ≡ Refused k → Walked area join join (Refused k) (step area place room)
+  passes-refused k e =
+      let is = refused-is k (look area place) (sym e ∙ looked) in
+      stays (Refused k) (sym (step-refused area place room k is)) tt (refused-keeps join k)
 
-      go : (a : Answer rfc.Found) → look area place ≡ a → r ≡ sizes a → Walked area join join r (step area place (length join))
-      go (given (stop s at)) l p =
-          back _ p
-          (stopped area join _ (stopBack s) at
-          (step-found area place room (stop s at) l
-          ∙ stop-answered room s at
-          ∙ ap (λ (t : rfc.Stop). given (stop t at)) (sym (stop-of s))))
-      go (given (option c v k at)) l p = absurd (subst NoOption p n)
-      go (refused k) l p = back _ p (refuses area join _ k (step-refused area place room k l))
-      go (needs k) l p = back _ p (asks area join _ k (step-needs area place room k l))
+  pub passes-needs : (n : ℕ) → r ≡ Needs n → Walked area join join (Needs n) (step area place room)
+  passes-needs n e =
+      let is = needs-is n (look area place) (sym e ∙ looked) in
+      stays (Needs n) (sym (step-needs area place room n is)) tt (needs-keeps join n)
 
 -- an option that a call found, by its numbers: its value is that of the parts that end at its place
-module _ (area : List ℕ) (from code parts len place : ℕ) (e : Found code parts len place ≡ sizes (look area from)) where
-  value-is : (look area from ≡ given (option code (valueBefore area code parts len place) parts place))
-      × (length (valueBefore area code parts len place) ≡ len)
-  value-is =
-      let f = found-is code parts len place (look area from) e in
+module _ (area : List ℕ) (from code parts len place : ℕ) {r : Step} (looked : r ≡ sizes (look area from))
+    (e : r ≡ Found code parts len place) where
+  pub parted : Parted area code parts len place
+  parted =
+      let f = found-is code parts len place (look area from) (sym e ∙ looked) in
       let v : List ℕ = f .0 in
       let start : place - 2 * parts - len ≡ place - (2 * parts + length v) = omega (arith, f .2) in
       let is : valueBefore area code parts len place ≡ v =
       ap (λ (k : ℕ). values (further code (drop k area))) start ∙ ap values (look-stands area code v parts place from (f .1) .parts) in
-      (f .1 ∙ ap (λ (l : List ℕ). given (option code l parts place)) (sym is), ap length is ∙ f .2)
-
-  pub parted : Parted area code parts len place
-  parted = record { from = from; found = value-is .0; long = value-is .1 }
+      record {
+        from = from;
+        found = f .1 ∙ ap (λ (l : List ℕ). given (option code l parts place)) (sym is);
+        long = ap length is ∙ f .2;
+      }
 
   -- the answer for it is the call's
-  pub finishes : {join join′ : List ℕ} {r : Step}
-      → Walked area join join′ r (roomFor (length join) (option code (valueBefore area code parts len place) parts place))
-      → Walked area join join′ r (step area from (length join))
-  finishes {join} w = same-answer (step-found area from (length join) _ (value-is .0)) w
+  pub finishes : {join join′ : List ℕ} {s : Step}
+      → Walked area join join′ s (roomFor (length join) (option code (valueBefore area code parts len place) parts place))
+      → Walked area join join′ s (step area from (length join))
+  unfolding parted
+  finishes {join} w = rw (step-found area from (length join) _ (parted .found)) w
 
 -- each answer for it
-module _ (area join : List ℕ) (code parts len place : ℕ) (h : Parted area code parts len place) where
-  abbrev v : List ℕ
-  v = valueBefore area code parts len place
+module _ {area : List ℕ} {code parts len place : ℕ} (h : Parted area code parts len place) where
+  abbrev value : List ℕ
+  value = valueBefore area code parts len place
 
-  pub stands : Stands area code v parts place
-  stands = look-stands area code v parts place (h .from) (h .found)
+  stands : Stands area code value parts place
+  stands = look-stands area code value parts place (h .from) (h .found)
 
-  abbrev says-found : Answer rfc.Found
-  says-found = roomFor (length join) (option code v parts place)
+  -- its parts stand before its place, from the first on
+  pub before : 2 * parts + len ≤ place
+  before = omega (arith, stands .fits, h .long)
 
-  pub one-part : parts < 2 → Walked area join join (Found code parts len place) says-found
-  one-part p =
-      let s = stands in
-      let l : len ≡ length v = sym (h .long) in
-      let one : parts ≡ 1 = omega (arith, s .some) in
-      let fits : len ≤ place = omega (arith, s .fits) in
-      finds-one area join says-found code v parts len place (one-answered (length join) code v parts place (omega arith))
-      (omega arith) fits (s .within) ((λ i. take (l i) (drop (place - l i) area)) ∙ sym (s .one one))
-
-  -- its parts, from the first on
-  pub all-parts : len ≤ length join → AtPart area (place - 2 * parts - len) code parts (length join)
+  pub all-parts : {room : ℕ} → len ≤ room → AtPart area (place - 2 * parts - len) code parts room
   all-parts g =
-      let s = stands in
-      let start : place - 2 * parts - len ≡ place - (2 * parts + length v) = omega (arith, h .long) in
+      let start : place - 2 * parts - len ≡ place - (2 * parts + length value) = omega (arith, h .long) in
       record {
-        whole = ap (λ (k : ℕ). further code (drop k area)) start ∙ s .parts;
+        whole = ap (λ (k : ℕ). further code (drop k area)) start ∙ stands .parts;
         fits = omega (arith, h .long);
       }
 
-  module _ (two : 2 ≤ parts) where
-    pub too-long : length join < len → Walked area join join (Needs len) says-found
-    too-long g =
-        asks area join says-found len
-        (many-needs (length join) code v parts place (omega arith) (omega (arith, h .long)) ∙ ap (λ (n : ℕ). needs n) (h .long))
+  abbrev answer : List ℕ → Answer rfc.Found
+  answer join = roomFor (length join) (option code value parts place)
 
-    pub joined-parts : (join′ : List ℕ) → join′ ≡ over join 0 v → len ≤ length join
-        → Walked area join join′ (Found code parts len place) says-found
-    joined-parts join′ e g =
+  module _ {join : List ℕ} where
+    pub one-part : parts < 2 → Walked area join join (Found code parts len place) (answer join)
+    one-part p =
         let s = stands in
-        finds-many area join says-found code v parts len place
-        (many-answered (length join) code v parts place (omega arith) (omega (arith, h .long)))
-        join′ (omega arith) (omega (arith, h .long, s .fits)) (s .within) (sym (h .long)) g e
+        let b = before in
+        let one : parts ≡ 1 = omega (arith, s .some) in
+        let there = part-there area (place - len) len (omega (arith, s .within)) in
+        let l : len ≡ length value = sym (h .long) in
+        let shows = shown-one parts len place area join (omega arith) (omega arith) ∙ there
+        ∙ (λ i. take (l i) (drop (place - l i) area)) ∙ sym (s .one one) in
+        stays (Found code parts len place)
+        (ap (λ (x : List ℕ). given (option code x parts place)) shows
+        ∙ sym (one-answered (length join) code value parts place (omega arith)))
+        (omega arith, s .within, λ k. absurd (let f : ⊥ = omega arith in f))
+        (one-keeps join code _ parts place (omega arith))
+
+    module _ (two : 2 ≤ parts) where
+      pub too-long : length join < len → Walked area join join (Needs len) (answer join)
+      too-long g =
+          let is = many-needs (length join) code value parts place (omega arith) (omega (arith, h .long)) in
+          stays (Needs len) (ap (λ (n : ℕ). needs n) (sym (h .long)) ∙ sym is) tt (needs-keeps join len)
+
+      pub joined-parts : {join′ : List ℕ} → join′ ≡ over join 0 value → len ≤ length join
+          → Walked area join join′ (Found code parts len place) (answer join)
+      joined-parts {join′} j g =
+          let b = before in
+          let fits : 0 + length value ≤ length join = omega (arith, h .long) in
+          let long : length join′ ≡ length join = ap length j ∙ length-over join 0 value fits in
+          let there : take len join′ ≡ value = (λ i. take (sym (h .long) i) (j i)) ∙ shown-over join 0 value fits in
+          let is = many-answered (length join) code value parts place (omega arith) (omega (arith, h .long)) in
+          record {
+            told =
+                ap (λ (x : List ℕ). given (option code x parts place))
+                (shown-many parts len place area join′ (omega arith) ∙ part-there join′ 0 len (omega arith) ∙ there)
+                ∙ sym is;
+            inside = (omega arith, stands .within, λ _. omega arith);
+            kept = j ∙ sym (ap (λ (x : Answer rfc.Found). joinAfter x join) is ∙ many-joined join code value parts place (omega arith));
+          }
 
 -- where the walk goes on is what the definition says of what was answered
 pub place-says : (r : Step) (area join : List ℕ) (place : ℕ) → placeOf r place ≡ placeAfter (says r area join) place

@@ -1,7 +1,7 @@
 -- Runs of parts that are known by their numbers, as the code knows them.
 -- Assumes nothing.
 use mathlib.Core.Path.{_≡_, refl, sym, ap, _∙_}
-use Prim.Native.Nat.{ℕ, suc, _+_, _-_, _*_, _≤_}
+use Prim.Native.Nat.{ℕ, suc, _+_, _*_, _≤_}
 use native.Mathlib.Omega.{arith}
 use mathlib.Core.List.{List, [], _++_}
 use lib.ListN.{length, take, drop, getD, length-drop, length-append}
@@ -16,8 +16,8 @@ use Rattle.borrowed.specs.declared.parts.Run.the-variants.{Cut, Whole}
 
 -- a run that is known by its numbers
 pub whole-is : (parts len : ℕ) (r : rfc.Run) → Whole parts len ≡ sizeOf r → (r ≡ run parts (values r)) × (length (values r) ≡ len)
-whole-is parts len cut e = let z : _≡_ {A = ℕ} 0 1 = cc in absurd (let f : ⊥ = omega arith in f)
-whole-is parts len (run n vs) e = let a : n ≡ parts = cc in let b : length vs ≡ len = cc in (ap (λ (k : ℕ). run k vs) a, b)
+whole-is parts len cut e = (cc, cc)
+whole-is parts len (run n vs) e = (cc, cc)
 
 pub cut-is : (r : rfc.Run) → Cut ≡ sizeOf r → r ≡ cut
 cut-is cut e = refl

@@ -1,6 +1,6 @@
 -- The bytes that an option shows, case by case.
 -- Assumes nothing.
-use mathlib.Core.Path.{_≡_, ap, _∙_}
+use mathlib.Core.Path.{_≡_, sym, ap, _∙_}
 use Prim.Native.Nat.{ℕ, _+_, _-_, _≤_, _<_}
 use native.Mathlib.Omega.{arith}
 use native.Mathlib.Decide.{decLe}
@@ -15,6 +15,10 @@ module _ (bytes : List ℕ) (start len : ℕ) where
   unfolding partOf
   part-there h = rw (le-leb (start + len) (length bytes) h)
 
+  -- by its two ends
+  pub part-between : start + len ≤ length bytes → take (start + len - start) (drop start bytes) ≡ partOf bytes start len
+  part-between h = let n : start + len - start ≡ len = omega arith in rw n (sym (part-there h))
+
   pub part-none : length bytes < start + len → partOf bytes start len ≡ []
   unfolding partOf
   part-none h = rw (lt-leb (start + len) (length bytes) h)
@@ -24,9 +28,9 @@ module _ (parts len place : ℕ) (area join : List ℕ) where
   unfolding shown
   shown-many h = rw (lt-leb parts 1 h)
 
-  pub shown-none : parts ≤ 1 → place < len → shown parts len place area join ≡ []
+  pub shown-none : parts ≤ 1 → place < len → shown parts len place area join ≡ partOf area 0 0
   unfolding shown
-  shown-none h g = simp (le-leb parts 1 h, lt-leb len place g)
+  shown-none h g = simp (le-leb parts 1 h, lt-leb len place g) (sym (part-there area 0 0 (omega arith)))
 
   pub shown-one : parts ≤ 1 → len ≤ place → shown parts len place area join ≡ partOf area (place - len) len
   unfolding shown

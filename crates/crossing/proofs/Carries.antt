@@ -1,6 +1,6 @@
 -- What the library tells of an answer, told of what crosses.
 -- Assumes nothing.
-use mathlib.Core.Path.{_≡_, refl, sym, ap, _∙_, subst}
+use mathlib.Core.Path.{_≡_, refl, sym, ap, _∙_}
 use Prim.Native.Nat.{ℕ}
 use mathlib.Core.List.{List, []}
 use Rattle.rfc.specs.Numbers.{Answer}
@@ -26,8 +26,7 @@ step-said : (place : ℕ) (r : call.Step) (area join : List ℕ) → walked.Insi
     → stepHere place r ≡ stepOf place (walked.says r area join)
 step-said place (Stopped s at) area join i = refl
 step-said place (Found code parts len at) area join i =
-    let found : ℕ → Step = λ n. record { refused = 0; stop = 0; code = code; parts = parts; len = n; place = at } in
-    ap found (sym (length-shown parts len at area join (i .0) (i .1) (i .2)))
+    rw (length-shown parts len at area join (i .0) (i .1) (i .2))
 step-said place (Refused number) area join i = refl
 step-said place (Needs len) area join i = refl
 
@@ -67,8 +66,7 @@ wrote-crosses {place = place} w e = record { told = e ∙ ap (writtenOf place) (
 -- the same value by another name
 pub same-content : (kind code : ℕ) {x y : rfc.Content} {room room′ : List ℕ} {place : ℕ} {s : Written} → x ≡ y
     → WroteValue kind x code room room′ place s → WroteValue kind y code room room′ place s
-same-content kind code {room = room} {room′ = room′} {place = place} {s = s} e w =
-    subst (λ (k : rfc.Content). WroteValue kind k code room room′ place s) e w
+same-content kind code e w = rw (← e) w
 
 -- two answers to one write, and what they leave
 pub wrote-one : {w : Write} {room r₁ r₂ : List ℕ} {place : ℕ} {a b : Written}

@@ -1,5 +1,5 @@
-// How each answer of the library becomes a struct of plain numbers, which crosses the boundary to programs in Rust and in C: `answers` has the
-// structs, and here is a function for each.
+// How each answer of the library becomes a struct of plain numbers, which crosses the boundary to programs in Rust and in C: `answers` has
+// the structs, and here is a function for each.
 pub mod answers;
 
 ghost use mathlib.Core.Path.{_≡_};

@@ -1,14 +1,15 @@
 -- A writer's answers, for any write: a refusal, a success, and what its contract tells a caller.
 -- Assumes nothing.
 use mathlib.Core.Path.{_≡_, sym, ap, _∙_, subst}
-use Prim.Native.Nat.{ℕ, _+_, _≤_, _<_}
-use mathlib.Core.List.{List}
-use lib.ListN.{length}
+use Prim.Native.Nat.{ℕ, _+_, _-_, _≤_, _<_}
+use mathlib.Core.List.{List, _∷_}
+use lib.ListN.{length, take, drop, set, length-set}
 use native.Mathlib.Omega.{arith}
 use Rattle.facts.specs.Over.{over}
 use Rattle.rfc.specs.Numbers.{given, refused}
 use Rattle.rfc.specs.Writing.{Write, answerTo, roomAfter, writeSlice}
-use Rattle.rfc.proofs.Writing.{refused-left, slice-8, slice-given, slice-left}
+use Rattle.rfc.proofs.Writing.{Alike, refused-left, slice-4, slice-8, slice-given, slice-left}
+use Rattle.rfc.proofs.Sofar.{part-over}
 use Rattle.encoder.specs.Written.{says, Wrote}
 use Rattle.encoder.specs.declared.Written.{Written}
 use Rattle.encoder.specs.declared.Written.the-variants.{To, Refused}
@@ -36,30 +37,45 @@ pub wrote-one : {w : Write} {room r₁ r₂ : List ℕ} {place : ℕ} {a b : Wri
 wrote-one {a = a} {b = b} p q = (says-one a b (p .told ∙ sym (q .told)), p .left ∙ sym (q .left))
 
 -- a write that answers as another does, and leaves what it leaves
-pub same-wrote : {w w′ : Write} {room room′ : List ℕ} {place : ℕ} {r : Written}
-    → (answerTo w room place ≡ answerTo w′ room place) × (roomAfter w room place ≡ roomAfter w′ room place)
+pub same-wrote : {w w′ : Write} {room room′ : List ℕ} {place : ℕ} {r : Written} → Alike w w′ room place
     → Wrote w room room′ place r → Wrote w′ room room′ place r
 same-wrote same o = record { told = o .told ∙ same .0; left = o .left ∙ same .1 }
-
--- bytes as they stand, at a place of the room: they do not fit, or they are put
-module _ (bytes room : List ℕ) (place : ℕ) (within : place ≤ length room) where
-  pub no-room : length room < place + length bytes → Wrote (writeSlice bytes room place) room room place (Refused 8)
-  no-room h = refuses _ room place 8 (slice-8 bytes room place within h)
-
-  pub puts : {room′ : List ℕ} (to : ℕ) → place + length bytes ≤ length room
-      → to ≡ place + length bytes → room′ ≡ over room place bytes
-      → Wrote (writeSlice bytes room place) room room′ place (To to)
-  puts {room′} to h e p =
-      writes _ room place room′ to
-      (slice-given bytes room place within h ∙ ap given (sym e)) (slice-left bytes room place within h ∙ sym p)
-
--- bytes that fit are put over what stood there
-pub put-over : (bytes room room′ : List ℕ) (place : ℕ) (r : Written) → place + length bytes ≤ length room
-    → Wrote (writeSlice bytes room place) room room′ place r → room′ ≡ over room place bytes
-put-over bytes room room′ place r h w = w .left ∙ slice-left bytes room place (omega arith) h
 
 -- the same bytes by another name
 pub same-bytes : {bytes others room room′ : List ℕ} {place : ℕ} {r : Written} → bytes ≡ others
     → Wrote (writeSlice bytes room place) room room′ place r → Wrote (writeSlice others room place) room room′ place r
 same-bytes {room = room} {room′ = room′} {place = place} {r = r} e w =
     subst (λ (l : List ℕ). Wrote (writeSlice l room place) room room′ place r) e w
+
+-- bytes as they stand: the place is none of the room, they do not fit, or they are put
+module _ (bytes room : List ℕ) (place : ℕ) where
+  pub past-end : length room < place → Wrote (writeSlice bytes room place) room room place (Refused 4)
+  past-end h = refuses _ room place 4 (slice-4 bytes room place h)
+
+  pub no-room : place ≤ length room → length room < place + length bytes → Wrote (writeSlice bytes room place) room room place (Refused 8)
+  no-room g h = refuses _ room place 8 (slice-8 bytes room place g h)
+
+  pub puts : place + length bytes ≤ length room → {room′ : List ℕ} (to : ℕ) → to ≡ place + length bytes → room′ ≡ over room place bytes
+      → Wrote (writeSlice bytes room place) room room′ place (To to)
+  puts h {room′} to e p =
+      writes _ room place room′ to
+      (slice-given bytes room place (omega arith) h ∙ ap given (sym e)) (slice-left bytes room place (omega arith) h ∙ sym p)
+
+-- bytes that fit are put over what stood there
+pub put-over : (bytes room room′ : List ℕ) (place : ℕ) (r : Written) → place + length bytes ≤ length room
+    → Wrote (writeSlice bytes room place) room room′ place r → room′ ≡ over room place bytes
+put-over bytes room room′ place r h w = w .left ∙ slice-left bytes room place (omega arith) h
+
+-- two stores, and behind them a writer's bytes, which are made of n elements of a list: a part
+pub part-put : (make : List ℕ → List ℕ) (room l : List ℕ) (at code size from n : ℕ) → length (make (take n (drop from l))) ≡ size
+    → at + (2 + size) ≤ length room → {room′ : List ℕ} {r : Written}
+    → Wrote (writeSlice (make (take (from + n - from) (drop from l))) (set (set room at code) (at + 1) size) (at + 2))
+    (set (set room at code) (at + 1) size) room′ (at + 2) r
+    → room′ ≡ over room at (code ∷ size ∷ make (take n (drop from l)))
+part-put make room l at code size from n e h w =
+    let bytes : List ℕ = make (take n (drop from l)) in
+    let stored : List ℕ = set (set room at code) (at + 1) size in
+    let k : from + n - from ≡ n = omega arith in
+    let s : length stored ≡ length room = simp length-set in
+    put-over bytes stored _ (at + 2) _ (omega arith) (same-bytes (ap (λ (m : ℕ). make (take m (drop from l))) k) w)
+    ∙ part-over room bytes at code size (omega arith)

@@ -1,12 +1,11 @@
--- Bytes copied in runs, one behind the other or the last one over some of those before: what then stands there. Proved once, for every
--- width.
+-- Bytes copied in runs, one behind the other: what then stands there. Proved once, for every width.
 -- Assumes nothing.
 use mathlib.Core.Path.{_≡_, sym, ap, _∙_}
-use Prim.Native.Nat.{ℕ, _+_, _-_, _≤_}
+use Prim.Native.Nat.{ℕ, _+_, _≤_}
 use mathlib.Core.List.{List}
 use native.Mathlib.Omega.{arith}
 use lib.ListN.{length, take, drop, length-drop}
-use lib.Seq.{drop-drop, take-length}
+use lib.Seq.{drop-drop}
 use Rattle.facts.specs.Over.{over}
 use Rattle.facts.proofs.Over.{over-lap}
 
@@ -35,16 +34,3 @@ run-more {d} {s = s} {at = at} {i = i} {k = k} r n h read put =
           ∙ ap (λ (x : List ℕ). over (over d at (take k rest)) (at + k) (take n x)) (sym (drop-drop k i s))
           ∙ over-lap d at rest k n (omega (arith, r)) (omega (arith, r)) k (omega arith) (omega arith);
     }
-
--- all of s goes to d at a place: the first j bytes stand there, and the last w are put, which begin among those j or right behind them
-pub run-last : (d s : List ℕ) (at w j : ℕ) → at + length s ≤ length d → w ≤ length s → j ≤ length s → length s ≤ j + w
-    → {d′ d″ : List ℕ} → d′ ≡ over d at (take j s) → d″ ≡ over d′ (at + (length s - w)) (take w (drop (length s - w) s))
-    → d″ ≡ over d at s
-run-last d s at w j h g below above first put =
-    let k : ℕ = length s - w in
-    let e : k + w ≡ length s = omega arith in
-    put
-    ∙ ap (λ (x : List ℕ). over x (at + k) (take w (drop k s))) first
-    ∙ over-lap d at s k w (omega arith) (omega arith) j (omega arith) (omega arith)
-    ∙ ap (λ (m : ℕ). over d at (take m s)) e
-    ∙ ap (over d at) (take-length s)

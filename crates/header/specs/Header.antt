@@ -1,6 +1,6 @@
 -- What the contracts of the fixed header's readers say, over the definitions of `Rattle.rfc.specs.Header`.
 -- Assumes nothing.
-use Prim.Native.Nat.{ℕ, zero, suc, _+_, _≤_, _<_}
+use Prim.Native.Nat.{ℕ, _+_, _≤_, _<_}
 use mathlib.Core.Path.{_≡_}
 use mathlib.Core.Bool.{Bool, true, false, cond}
 use mathlib.Core.List.{List}
@@ -104,11 +104,6 @@ noneOf k =
       «chaddr_refused» = 0;
       «wrong_magic» = false;
     }
-
--- the number that refuses a reading, 0 for none
-abbrev pub asked : ℕ → Answer (Unit {0})
-asked zero = given tt
-asked (suc k) = refused (suc k)
 
 -- a message that is read
 pub record Whole (message : List ℕ) : Type 0 where

@@ -3,9 +3,9 @@
 ghost use mathlib.Core.Path.{_≡_};
 ghost use mathlib.Core.Bool.{not};
 ghost use Rattle.facts.specs.BigEndian.{number};
-ghost use Rattle.rfc.specs.Numbers.{given, checked};
+ghost use Rattle.rfc.specs.Numbers.{firstRefusal};
 ghost use Rattle.rfc.specs.Header as rfc;
-ghost use Rattle.header.specs.Header.{says, saysPart, saysArea, allOf, noneOf, cutIn, asked, Whole, There, Sized, Inside};
+ghost use Rattle.header.specs.Header.{says, saysPart, saysArea, allOf, noneOf, cutIn, Whole, There, Sized, Inside};
 use limits::LEAST_MESSAGE;
 use limits::MOST_BYTES;
 
@@ -247,7 +247,7 @@ impl Header {
 
 // The number that refuses the reading of a message, 0 for none.
 fn refusal_of(message: &[u8]) -> u8
-    ensures { λ r. ⌜ asked r ≡ checked (rfc.messageChecks (now (message .entry))) (given tt) ⌝ }
+    ensures { λ r. ⌜ r ≡ firstRefusal (rfc.messageChecks (now (message .entry))) ⌝ }
 {
     if message.len() > MOST_BYTES {
         return 2;

@@ -15,7 +15,8 @@ use limits::MOST_VALUE;
 
 // Writes `value` to `code` at `place` as a byte value.
 pub fn write_bytes(room: &mut [u8], place: usize, code: u8, value: &[u8]) -> Written
-    ensures { λ r. ⌜ Wrote (writeBytes code (now (value .entry)) (now (room .entry)) place) (now (room .entry)) (now (room .exit)) place r ⌝ }
+    ensures { λ r. ⌜ Wrote (writeBytes code (now (value .entry)) (now (room .entry)) place)
+        (now (room .entry)) (now (room .exit)) place r ⌝ }
 {
     if room.len() > MOST_BYTES {
         return Written::Refused(2);

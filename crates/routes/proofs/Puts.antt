@@ -1,6 +1,6 @@
 -- Bytes of a value that are put one behind the other are the value in parts.
 -- Assumes nothing.
-use mathlib.Core.Path.{_≡_, refl, sym, ap, _∙_, subst}
+use mathlib.Core.Path.{_≡_, refl, sym, ap, _∙_}
 use Prim.Native.Nat.{ℕ, suc, zero, _+_, _-_, _≤_, _<_, min}
 use mathlib.Core.Bool.{Bool, true, false, cond}
 use mathlib.Core.List.{List, [], _∷_, _++_, foldl}
@@ -21,7 +21,7 @@ use Rattle.routes.specs.declared.Pass.{Pass}
 use Rattle.routes.proofs.Passes.{opened-inside, opened-head, added-byte}
 
 -- from one state to another these bytes are written
-record Puts (d : State) (bytes : List ℕ) (d′ : State) : Type 0 where
+pub record Puts (d : State) (bytes : List ℕ) (d′ : State) : Type 0 where
   pub to : d′ .0 .at ≡ d .0 .at + length bytes
   pub left : d′ .1 ≡ over (d .1) (d .0 .at) bytes
 
@@ -71,9 +71,7 @@ module _ (byte : ℕ) (v : List ℕ) (told : Told v) where
       record { to = refl; left = set-over room (p .at) byte (omega (arith, ap length more)) } in
       let all : Puts d (rest (p .part - 1) v) (foldl put d v) =
       told d (omega arith) (omega (arith, ap length more, length-set room (p .at) byte)) in
-      subst (λ (x : State). Puts (p, room) (rest (p .part) (byte ∷ v)) (foldl put x v)) (sym e)
-      (subst (λ (l : List ℕ). Puts (p, room) l (foldl put d v)) (sym more)
-      (puts-both (p, room) d (foldl put d v) (byte ∷ []) (rest (p .part - 1) v) (omega (arith, ap length more)) one all))
+      rw (e, more) (puts-both (p, room) d (foldl put d v) (byte ∷ []) (rest (p .part - 1) v) (omega (arith, ap length more)) one all)
 
   -- where a part begins its head comes first
   outside : (p : Pass) (room : List ℕ) → p .part ≡ 0 → p .part + p .len ≡ length (byte ∷ v)
@@ -94,9 +92,7 @@ module _ (byte : ℕ) (v : List ℕ) (told : Told v) where
       length-set (set room (p .at) routesCode) (p .at + 1) n ∙ length-set room (p .at) routesCode in
       let value : Puts d (rest n all) (foldl put d all) =
       inside (d .0) (d .1) (omega arith) (omega arith) (omega (arith, ap length next)) in
-      subst (λ (x : State). Puts (p, room) (rest 0 all) (foldl put x v)) (sym e)
-      (subst (λ (l : List ℕ). Puts (p, room) l (foldl put d all)) (sym next)
-      (puts-both (p, room) d (foldl put d all) (routesCode ∷ n ∷ []) (rest n all) (omega (arith, ap length next)) head value))
+      rw (e, next) (puts-both (p, room) d (foldl put d all) (routesCode ∷ n ∷ []) (rest n all) (omega (arith, ap length next)) head value)
 
   by-part : Told (byte ∷ v)
   by-part d sum fits = go (d .0 .part) refl
@@ -104,25 +100,20 @@ module _ (byte : ℕ) (v : List ℕ) (told : Told v) where
       go : (n : ℕ) → d .0 .part ≡ n → Puts d (rest (d .0 .part) (byte ∷ v)) (foldl put d (byte ∷ v))
       go zero e =
           let r : rest (d .0 .part) (byte ∷ v) ≡ rest 0 (byte ∷ v) = ap (λ (n : ℕ). rest n (byte ∷ v)) e in
-          subst (λ (l : List ℕ). Puts d l (foldl put d (byte ∷ v))) (sym r)
-          (outside (d .0) (d .1) e sum (omega (arith, ap length r)))
+          rw r (outside (d .0) (d .1) e sum (omega (arith, ap length r)))
       go (suc n) e = inside (d .0) (d .1) (omega arith) sum fits
 
 puts-rest : (v : List ℕ) → Told v
-puts-rest [] d sum fits =
-    subst (λ (l : List ℕ). Puts d l d) (sym (rest-none (d .0 .part))) (puts-none d)
+puts-rest [] d sum fits = rw (rest-none (d .0 .part)) (puts-none d)
 puts-rest (byte ∷ v) d sum fits = by-part byte v (puts-rest v) d sum fits
 
 -- a whole value
 pub puts-value : (v : List ℕ) (d : State) → d .0 .part ≡ 0 → d .0 .len ≡ length v
     → d .0 .at + length (encode mostPart routesCode v) ≤ length (d .1)
-    → (foldl put d v .0 .at ≡ d .0 .at + length (encode mostPart routesCode v))
-    × (foldl put d v .1 ≡ over (d .1) (d .0 .at) (encode mostPart routesCode v))
+    → Puts d (encode mostPart routesCode v) (foldl put d v)
 puts-value v d none all fits =
     let r : rest (d .0 .part) v ≡ encode mostPart routesCode v = ap (λ (n : ℕ). rest n v) none in
-    let p : Puts d (encode mostPart routesCode v) (foldl put d v) =
-    subst (λ (l : List ℕ). Puts d l (foldl put d v)) r (puts-rest v d (omega arith) (omega (arith, ap length r))) in
-    (p .to, p .left)
+    rw r at (puts-rest v d (omega arith) (omega (arith, ap length r)))
 
 -- a byte that is put changes neither the refusal nor whether the pass writes
 either : {A : Type 0} (P : A → Type 0) (b : Bool) (x y : A) → P x → P y → P (cond b x y)

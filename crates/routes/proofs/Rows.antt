@@ -1,6 +1,6 @@
 -- A pass over all rows of a table: after a refusal it does nothing, the first pass measures the value of the table, and the second puts it.
 -- Assumes nothing.
-use mathlib.Core.Path.{_≡_, refl, sym, ap, _∙_, subst}
+use mathlib.Core.Path.{_≡_, refl, sym, ap, _∙_}
 use Prim.Native.Nat.{ℕ, suc, _+_, _≤_, _<_, min}
 use mathlib.Core.Bool.{true, false}
 use mathlib.Core.List.{List, [], _∷_, _++_, foldl, foldl-append}
@@ -87,14 +87,11 @@ module _ (r : Route) (rs : List Route) (told : Told rs) (p : Pass) (room : List 
 
     counts : measured p (rowOf r) ≡ withLen n p → min (suc mostValue) (n + length behind) ≡ min (suc mostValue) (p .len + length all)
         → Measures (r ∷ rs) (p, room) (foldl passed (measured p (rowOf r), room) rs)
-    counts e c =
-        subst (λ (q : Pass). Measures (r ∷ rs) (p, room) (foldl passed (q, room) rs)) (sym e)
-        (in-front _ c (told (withLen n p, room) h w))
+    counts e c = rw e (in-front _ c (told (withLen n p, room) h w))
 
   refuses : rfc.mostWidth < r .width → Measures (r ∷ rs) (p, room) (foldl passed (measured p (rowOf r), room) rs)
   refuses g =
-      subst (λ (e : State). Measures (r ∷ rs) (p, room) e)
-      (sym (ap (λ (q : Pass). foldl passed (q, room) rs) (measured-12 p (rowOf r) g) ∙ all-refused rs (refuse 12 p, room) (lit< tt)))
+      rw (measured-12 p (rowOf r) g, all-refused rs (refuse 12 p, room) (lit< tt))
       (wide (ap rfc.tooWide (rows-more r rs) ∙ wide-first (rowOf r) (rowsOf rs) g) refl refl)
 
   by-row : Measures (r ∷ rs) (p, room) (foldl passed (measured p (rowOf r), room) rs)
@@ -109,6 +106,4 @@ module _ (r : Route) (rs : List Route) (told : Told rs) (p : Pass) (room : List 
 pub all-measured : (rs : List Route) → Told rs
 all-measured [] d h w =
     narrow (ap rfc.tooWide rows-none ∙ wide-none) (d .0 .len) refl (omega (arith, ap length value-none))
-all-measured (r ∷ rs) d h w =
-    subst (λ (e : State). Measures (r ∷ rs) d (foldl passed e rs)) (sym (passed-measuring d r h w))
-    (by-row r rs (all-measured rs) (d .0) (d .1) h w)
+all-measured (r ∷ rs) d h w = rw (passed-measuring d r h w) (by-row r rs (all-measured rs) (d .0) (d .1) h w)

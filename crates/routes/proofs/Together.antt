@@ -1,6 +1,6 @@
 -- The two passes answer and leave what the definition of the write says.
 -- Assumes nothing.
-use mathlib.Core.Path.{_≡_, refl, sym, ap, _∙_, subst}
+use mathlib.Core.Path.{_≡_, refl, sym, ap, _∙_}
 use Prim.Native.Nat.{ℕ, suc, _+_, _≤_, _<_, min}
 use mathlib.Core.Bool.{false}
 use mathlib.Core.List.{List, foldl}
@@ -44,12 +44,11 @@ module _ (rs : List Route) (room : List ℕ) (place : ℕ) where
   -- a refusal between the passes, and one before or in the first
   stops : (p : Pass) (k : ℕ) → p .refusal ≡ k → 0 < k → answerTo w room place ≡ refused k → Ends (foldl passed (p, room) rs)
   stops p k e s t =
-      subst Ends (sym (all-refused rs (p, room) (omega arith)))
+      rw (all-refused rs (p, room) (omega arith))
       (answered-refused p (omega arith) ∙ ap refused e ∙ sym t, sym (refused-left w room place k t))
 
   stands : (p : Pass) (k : ℕ) → p .refusal ≡ k → 0 < k → answerTo w room place ≡ refused k → Ends (rewound (p, room))
-  stands p k e s t =
-      subst (λ (q : Pass). Ends (foldl passed (q, room) rs)) (sym (turned-refused p n (omega arith))) (stops p k e s t)
+  stands p k e s t = rw (turned-refused p n (omega arith)) (stops p k e s t)
 
   module _ (short : n ≤ mostBytes) (within : place ≤ n) where
     module _ (tight : rfc.tooWide (rowsOf rs) ≡ false) where
@@ -61,24 +60,22 @@ module _ (rs : List Route) (room : List ℕ) (place : ℕ) where
             let d : State = (second (withLen (length value) (first place)), room) in
             let k = puts-keep value d in
             let p = puts-value value d refl refl fits in
-            subst Ends (sym (all-put rs d (omega arith) refl)) (
+            rw (all-put rs d (omega arith) refl) (
               answered-given (foldl put d value .0) (omega (arith, k .0))
-                  ∙ ap given (p .0)
+                  ∙ ap given (p .to)
                   ∙ sym (routes-given (rowsOf rs) room place short within tight little fits),
-              p .1 ∙ sym (routes-left (rowsOf rs) room place short within tight little fits),
+              p .left ∙ sym (routes-left (rowsOf rs) room place short within tight little fits),
             )
 
         by-room : Dec (place + length (encode mostPart rfc.routesCode value) ≤ n)
             → Ends (rewound (withLen (length value) (first place), room))
         by-room (yes fits) =
-            subst (λ (q : Pass). Ends (foldl passed (q, room) rs))
-            (sym (turned-second (withLen (length value) (first place)) n (omega arith) little
-            (omega (arith, length-encode mostPart (lit< tt) rfc.routesCode value))))
+            rw (turned-second (withLen (length value) (first place)) n (omega arith) little
+            (omega (arith, length-encode mostPart (lit< tt) rfc.routesCode value)))
             (writes fits)
         by-room (no full) =
             let p : Pass = withLen (length value) (first place) in
-            subst (λ (q : Pass). Ends (foldl passed (q, room) rs))
-            (sym (turned-8 p n (omega arith) little (omega (arith, length-encode mostPart (lit< tt) rfc.routesCode value))))
+            rw (turned-8 p n (omega arith) little (omega (arith, length-encode mostPart (lit< tt) rfc.routesCode value)))
             (stops (refuse 8 p) 8 refl (lit< tt) (routes-8 (rowsOf rs) room place short within tight little (omega arith)))
 
       -- m bytes were counted
@@ -86,34 +83,29 @@ module _ (rs : List Route) (room : List ℕ) (place : ℕ) where
           → Ends (rewound (withLen m (first place), room))
       by-length m c (yes little) =
           let e : m ≡ length value = omega arith in
-          subst (λ (k : ℕ). Ends (rewound (withLen k (first place), room))) (sym e)
-          (by-room little (decLe (place + length (encode mostPart rfc.routesCode value)) n))
+          rw e (by-room little (decLe (place + length (encode mostPart rfc.routesCode value)) n))
       by-length m c (no much) =
           let p : Pass = withLen m (first place) in
-          subst (λ (q : Pass). Ends (foldl passed (q, room) rs)) (sym (turned-7 p n (omega arith) (omega arith)))
+          rw (turned-7 p n (omega arith) (omega arith))
           (stops (refuse 7 p) 7 refl (lit< tt) (routes-7 (rowsOf rs) room place short within tight (omega arith)))
 
     by-widths : (m : State) → Measures rs (first place, room) m → Ends (rewound m)
     by-widths m (wide t e l) =
-        subst (λ (x : List ℕ). Ends (rewound (m .0, x))) (sym l)
-        (stands (m .0) 12 e (lit< tt) (routes-12 (rowsOf rs) room place short within t))
-    by-widths m (narrow t k e c) =
-        subst (λ (d : State). Ends (rewound d)) (sym e) (by-length t k c (decLe (length value) mostValue))
+        rw l (stands (m .0) 12 e (lit< tt) (routes-12 (rowsOf rs) room place short within t))
+    by-widths m (narrow t k e c) = rw e (by-length t k c (decLe (length value) mostValue))
 
   -- from the start
   by-checks : Dec (n ≤ mostBytes) → Dec (place ≤ n) → Ends (rewound (foldl passed (begun n place, room) rs))
   by-checks (yes short) (yes within) =
-      subst (λ (p : Pass). Ends (rewound (foldl passed (p, room) rs))) (sym (begun-first n place short within))
+      rw (begun-first n place short within)
       (by-widths short within _ (all-measured rs (first place, room) (omega arith) refl))
   by-checks (yes short) (no past) =
       let p : Pass = refuse 4 (first place) in
-      subst (λ (d : State). Ends (rewound d))
-      (sym (ap (λ (q : Pass). foldl passed (q, room) rs) (begun-4 n place short (omega arith)) ∙ all-refused rs (p, room) (lit< tt)))
+      rw (begun-4 n place short (omega arith), all-refused rs (p, room) (lit< tt))
       (stands p 4 refl (lit< tt) (routes-4 (rowsOf rs) room place short (omega arith)))
   by-checks (no long) past =
       let p : Pass = refuse 2 (first place) in
-      subst (λ (d : State). Ends (rewound d))
-      (sym (ap (λ (q : Pass). foldl passed (q, room) rs) (begun-2 n place (omega arith)) ∙ all-refused rs (p, room) (lit< tt)))
+      rw (begun-2 n place (omega arith), all-refused rs (p, room) (lit< tt))
       (stands p 2 refl (lit< tt) (routes-2 (rowsOf rs) room place (omega arith)))
 
   -- what the functions that are called promise, put together

@@ -1,6 +1,6 @@
 -- The laws of `specs/Listing.antt`, of a listing row by row, and of one call.
 -- Assumes nothing.
-use mathlib.Core.Path.{_≡_, sym, ap, _∙_}
+use mathlib.Core.Path.{_≡_, refl, sym, ap, _∙_}
 use Prim.Native.Nat.{ℕ, _+_, _-_, _/_, _≤_, _<_}
 use native.Mathlib.Omega.{arith}
 use native.Mathlib.Nat.{div-eq-of-lt, div-eq-sub-div}
@@ -21,9 +21,10 @@ use Rattle.borrowed.specs.declared.answer.Stop.{Stop}
 use Rattle.borrowed.specs.declared.answer.Step.{Step}
 use Rattle.borrowed.specs.declared.answer.Step.the-variants as step
 use Rattle.borrowed.proofs.answer.Step.{the-type}
-use Rattle.borrowed.proofs.Answers.{stopped-is, found-is, given-found, given-whole}
+use Rattle.borrowed.proofs.Answers.{stopped-is, found-is, refused-is, needs-is}
 use Rattle.crossing.specs.Carried.{stopNumber}
-use Rattle.sindovaleph_rows.specs.Listing.{Listing, Last, full, atStop, Columns, width, rowOf, inFront, listIn, list, lastNumber, listedOf, rowsAfter, Lists, bytesBefore, Inside, Left, fillsFrom, listedFrom}
+use Rattle.sindovaleph_rows.specs.Listing.{Listing, Last, full, atStop, Columns, width, rowOf, inFront, listIn, list, lastNumber}
+use Rattle.sindovaleph_rows.specs.Listing.{listedOf, rowsAfter, Lists, bytesBefore, Inside, Left, fillsFrom, listedFrom}
 use Rattle.sindovaleph_rows.specs.declared.listing.Filled.{Filled}
 use Rattle.sindovaleph_rows.specs.declared.listing.Listed.{Listed}
 use Rattle.sindovaleph_rows.proofs.Rows.{four, length-row, inside, row-alike}
@@ -41,78 +42,109 @@ module _ (c : Columns) (n room : ℕ) (area : List ℕ) (at : ℕ) where
       ap (λ (k : ℕ). listIn k c area at) (div-eq-sub-div {m = n} {n = room} some h ∙ add-one ((room - n) / n))
 
 -- an option that a call found, by its numbers
-module _ (area : List ℕ) (at code parts len to : ℕ) (e : step.Found code parts len to ≡ sizes (look area at)) where
-  value : List ℕ
-  value = found-is code parts len to (look area at) e .0
+module _ (area : List ℕ) (at code parts len to : ℕ) {r : Step} (looked : r ≡ sizes (look area at))
+    (e : r ≡ step.Found code parts len to) where
+  hit : (v : List ℕ) × (look area at ≡ given (option code v parts to)) × (length v ≡ len)
+  hit = found-is code parts len to (look area at) (sym e ∙ looked)
 
-  is : look area at ≡ given (option code value parts to)
-  unfolding value
-  is = found-is code parts len to (look area at) e .1
-
-  as-long : length value ≡ len
-  unfolding value
-  as-long = found-is code parts len to (look area at) e .2
-
-  stands : Stands area code value parts to
-  stands = look-stands area code value parts to at is
+  stands : Stands area code (hit .0) parts to
+  stands = look-stands area code (hit .0) parts to at (hit .1)
 
   -- its value is not longer than its place, which is in the area, and its row is that of the bytes before its place
   pub found-inside : Inside area len to
   found-inside =
-      let i = inside area code value parts to stands in record { long = omega (arith, i .long, as-long); within = i .within }
+      let i = inside area code (hit .0) parts to stands in record { long = omega (arith, i .long, hit .2); within = i .within }
 
-  found-row : (c : Columns) → rowOf c code (bytesBefore area len to) parts to ≡ rowOf c code value parts to
+  found-row : (c : Columns) → rowOf c code (bytesBefore area len to) parts to ≡ rowOf c code (hit .0) parts to
   found-row c =
-      ap (λ (j : ℕ). rowOf c code (bytesBefore area j to) parts to) (sym as-long) ∙ row-alike area code value parts to stands c
+      ap (λ (j : ℕ). rowOf c code (bytesBefore area j to) parts to) (sym (hit .2)) ∙ row-alike area code (hit .0) parts to stands c
 
--- k of all numbers are filled, and the listing goes on behind them
-module _ (c : Columns) (n : ℕ) (wide : width c ≡ n) (all : ℕ) (area rows : List ℕ) (k at : ℕ) where
-  abbrev onward : Left
-  onward = fillsFrom rows k (listIn ((all - k) / n) c area at)
+-- k of the lent numbers are filled, and from there the listing goes on to the same end
+pub record Going (c : Columns) (n : ℕ) (area : List ℕ) (place : ℕ) (rows₀ rows : List ℕ) (at k : ℕ) : Type 0 where
+  pub wide : width c ≡ n
+  pub four-wide : 4 ≤ n
+  pub some : k ≤ length rows₀
+  pub keeps : length rows ≡ length rows₀
+  pub within : at ≤ length area
+  pub same : fillsFrom rows k (listIn ((length rows₀ - k) / n) c area at) ≡ fillsFrom rows₀ 0 (listIn (length rows₀ / n) c area place)
+
+pub going-none : {c : Columns} {n : ℕ} {area : List ℕ} {place : ℕ} {rows : List ℕ} → width c ≡ n → place ≤ length area
+    → Going c n area place rows rows place 0
+going-none {c} {n} {area} {place} {rows} wide h =
+    let z : length rows - 0 ≡ length rows = omega arith in
+    record {
+      wide = wide;
+      four-wide = omega (arith, four c);
+      some = omega arith;
+      keeps = refl;
+      within = h;
+      same = ap (λ (r : ℕ). fillsFrom rows 0 (listIn (r / n) c area place)) z;
+    }
+
+module _ {c : Columns} {n : ℕ} {area : List ℕ} {place : ℕ} {rows₀ rows : List ℕ} {at k : ℕ}
+    (g : Going c n area place rows₀ rows at k) where
+  abbrev all : ℕ
+  all = length rows₀
+
+  abbrev end : Left
+  end = fillsFrom rows₀ 0 (listIn (all / n) c area place)
 
   -- nothing more is listed
-  ended : (last : Last) (to : ℕ) (l : Listing) → l ≡ record { rows = []; last = last; place = to }
-      → (rows, record { stop = lastNumber last; numbers = k; place = to }) ≡ fillsFrom rows k l
+  ended : (last : Last) (to : ℕ) → listIn ((all - k) / n) c area at ≡ record { rows = []; last = last; place = to }
+      → _≡_ {A = Left} (rows, record { stop = lastNumber last; numbers = k; place = to }) end
   unfolding fillsFrom
-  ended last to l e =
+  ended last to e =
       let z : k ≡ k + 0 = omega arith in
-      (λ i. (sym (over-nil rows k) i, record { stop = lastNumber last; numbers = z i; place = to })) ∙ sym (ap (fillsFrom rows k) e)
+      (λ i. (sym (over-nil rows k) i, record { stop = lastNumber last; numbers = z i; place = to }))
+      ∙ sym (ap (fillsFrom rows k) e)
+      ∙ g .same
 
-  pub fills-full : all - k < n → (rows, record { stop = 0; numbers = k; place = at }) ≡ onward
-  fills-full h = ended full at _ (list-full c n (all - k) area at h)
+  pub going-full : all - k < n → _≡_ {A = Left} (rows, record { stop = 0; numbers = k; place = at }) end
+  going-full h = ended full at (list-full c n (all - k) area at h)
 
   module _ (more : n ≤ all - k) where
     -- what is found there
     finds : (f : Found) → look area at ≡ given f
         → listIn ((all - k) / n) c area at ≡ inFront c f (listIn ((all - k - n) / n) c area)
     finds f e =
-        list-next c n (all - k) area at (omega (arith, four c)) more
-        ∙ ap (λ (g : Found). inFront c g (listIn ((all - k - n) / n) c area)) (look-walked area at f e)
+        list-next c n (all - k) area at (omega (arith, g .four-wide)) more
+        ∙ ap (λ (f : Found). inFront c f (listIn ((all - k - n) / n) c area)) (look-walked area at f e)
 
-    pub fills-stop : (s : Stop) (to : ℕ) → step.Stopped s to ≡ sizes (look area at)
-        → (rows, record { stop = stopNumber (stopOf s); numbers = k; place = to }) ≡ onward
-    unfolding inFront
-    fills-stop s to e = ended (atStop (stopOf s)) to _ (finds _ (stopped-is s to (look area at) e))
+    module _ {r : Step} (looked : r ≡ sizes (look area at)) where
+      pub going-stop : {s : Stop} {to number : ℕ} → r ≡ step.Stopped s to → number ≡ stopNumber (stopOf s)
+          → _≡_ {A = Left} (rows, record { stop = number; numbers = k; place = to }) end
+      unfolding inFront
+      going-stop {s} {to} e is =
+          (λ i. (rows, record { stop = is i; numbers = k; place = to }))
+          ∙ ended (atStop (stopOf s)) to (finds _ (stopped-is s to (look area at) (sym e ∙ looked)))
 
-    -- an option's row goes in front of the rest
-    pub fills-option : length rows ≡ all → (code parts len to : ℕ) → step.Found code parts len to ≡ sizes (look area at)
-        → (rows′ : List ℕ)
-        → rows′ ≡ over rows k (rowOf c code (bytesBefore area len to) parts to)
-        → fillsFrom rows′ (k + n) (listIn ((all - (k + n)) / n) c area to) ≡ onward
-    unfolding inFront fillsFrom
-    fills-option same code parts len to e rows′ put =
-        let v : List ℕ = value area at code parts len to e in
-        let row : List ℕ = rowOf c code v parts to in
-        let rest : Listing = listIn ((all - k - n) / n) c area to in
-        let l : n ≡ length row = sym (length-row c code v parts to ∙ wide) in
-        let has : rows′ ≡ over rows k row = put ∙ ap (over rows k) (found-row area at code parts len to e c) in
-        let room : all - (k + n) ≡ all - k - n = omega arith in
-        let a : k + n + length (rest .rows) ≡ k + length (row ++ rest .rows) = omega (arith, length-append row (rest .rows)) in
-        let b : over rows′ (k + n) (rest .rows) ≡ over rows k (row ++ rest .rows) =
-        (λ i. over (has i) (k + l i) (rest .rows)) ∙ over-over rows k row (rest .rows) (omega (arith, four c)) in
-        ap (λ (r : ℕ). fillsFrom rows′ (k + n) (listIn (r / n) c area to)) room
-        ∙ (λ i. (b i, record { stop = lastNumber (rest .last); numbers = a i; place = rest .place }))
-        ∙ sym (ap (fillsFrom rows k) (finds _ (is area at code parts len to e)))
+      -- an option's row goes in front of the rest
+      pub going-more : {code parts len to : ℕ} → r ≡ step.Found code parts len to → {rows′ : List ℕ} → length rows′ ≡ length rows
+          → rows′ ≡ over rows k (rowOf c code (bytesBefore area len to) parts to)
+          → Going c n area place rows₀ rows′ to (k + n)
+      unfolding inFront fillsFrom
+      going-more {code} {parts} {len} {to} e {rows′} kept put =
+          let o = hit area at code parts len to looked e in
+          let row : List ℕ = rowOf c code (o .0) parts to in
+          let rest : Listing = listIn ((all - k - n) / n) c area to in
+          let l : n ≡ length row = sym (length-row c code (o .0) parts to ∙ g .wide) in
+          let has : rows′ ≡ over rows k row = put ∙ ap (over rows k) (found-row area at code parts len to looked e c) in
+          let room : all - (k + n) ≡ all - k - n = omega arith in
+          let a : k + n + length (rest .rows) ≡ k + length (row ++ rest .rows) = omega (arith, length-append row (rest .rows)) in
+          let b : over rows′ (k + n) (rest .rows) ≡ over rows k (row ++ rest .rows) =
+          (λ i. over (has i) (k + l i) (rest .rows)) ∙ over-over rows k row (rest .rows) (omega (arith, g .four-wide, g .keeps)) in
+          record {
+            wide = g .wide;
+            four-wide = g .four-wide;
+            some = omega (arith, g .four-wide);
+            keeps = kept ∙ g .keeps;
+            within = found-inside area at code parts len to looked e .within;
+            same =
+                ap (λ (r : ℕ). fillsFrom rows′ (k + n) (listIn (r / n) c area to)) room
+                ∙ (λ i. (b i, record { stop = lastNumber (rest .last); numbers = a i; place = rest .place }))
+                ∙ sym (ap (fillsFrom rows k) (finds _ (o .1)))
+                ∙ g .same;
+          }
 
 -- an area and a place that were checked are not refused, and nothing is joined: the answers that do not come, by their numbers
 abbrev others : List ℕ
@@ -122,8 +154,8 @@ pub never : (area : List ℕ) (at : ℕ) → length area ≤ mostBytes → at �
     → OneOf others (tagOf the-type r) → ⊥
 never area at h g (step.Stopped s to) e t = miss others 0 tt t
 never area at h g (step.Found code parts len to) e t = miss others 1 tt t
-never area at h g (step.Refused k) e t = given-found (walk at (drop at area)) k (e ∙ ap sizes (look-walks area at h g))
-never area at h g (step.Needs len) e t = given-whole (walk at (drop at area)) len (e ∙ ap sizes (look-walks area at h g))
+never area at h g (step.Refused k) e t = let z : _≡_ {A = ℕ} 0 1 = cc (refused-is k (look area at) e, look-walks area at h g) in omega arith
+never area at h g (step.Needs len) e t = let z : _≡_ {A = ℕ} 0 1 = cc (needs-is len (look area at) e, look-walks area at h g) in omega arith
 
 -- one call
 module _ (c : Columns) (area : List ℕ) (place : ℕ) (rows : List ℕ) (r : Listed) where

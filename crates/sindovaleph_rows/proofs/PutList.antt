@@ -11,18 +11,18 @@ use Rattle.sindovaleph_rows.specs.declared.writing.WrittenRows.{WrittenR
 
 module _ (rows values room : List ℕ) (place : ℕ) where
   -- a refusal changes nothing
-  pub list-refused : (k : ℕ) → writeList rows values room place ≡ refused k
+  list-refused : (k : ℕ) → writeList rows values room place ≡ refused k
       → WritesList rows values room room place (record { refused = k; rows = 0; place = place })
   list-refused k e = record { told = sym (ap (writtenOf place) e); left = sym (ap (λ (a : Answer Made). roomOf a room) e) }
 
-  pub list-2 : mostBytes < length room → writeList rows values room place ≡ refused 2
+  pub list-2 : mostBytes < length room → WritesList rows values room room place (record { refused = 2; rows = 0; place = place })
   unfolding writeList
-  list-2 a = refuses _ (here (long room a))
+  list-2 a = list-refused 2 (refuses _ (here (long room a)))
 
   module _ (a : length room ≤ mostBytes) where
-    pub list-4 : length room < place → writeList rows values room place ≡ refused 4
+    pub list-4 : length room < place → WritesList rows values room room place (record { refused = 4; rows = 0; place = place })
     unfolding writeList
-    list-4 b = refuses _ (later (not-long room a) (here (past place room b)))
+    list-4 b = list-refused 4 (refuses _ (later (not-long room a) (here (past place room b))))
 
     -- else the rows are written
     module _ (b : place ≤ length room) where

@@ -1,9 +1,10 @@
 -- One row: which check decides, and how its write is the write of a byte value.
 -- Assumes nothing.
 use mathlib.Core.Path.{_≡_, refl, sym, _∙_}
-use Prim.Native.Nat.{ℕ, _+_, _≤_, _<_}
+use Prim.Native.Nat.{ℕ, _+_, _-_, _≤_, _<_}
 use mathlib.Core.Bool.{true, false}
 use mathlib.Core.List.{List}
+use native.Mathlib.Omega.{arith}
 use borrow.Author.Tests.{lt-ltb, le-ltb}
 use lib.ListN.{length, take, drop}
 use Rattle.rfc.specs.Numbers.{refused, mostBytes, noCode}
@@ -52,13 +53,14 @@ module _ (code start len : ℕ) (values room : List ℕ) (place : ℕ) where
           passes-left (stands-inside start len values a)
           (passes-right (not-long room short) (passes-right (not-past place room within) (both (a-byte code b) (both refl none))))
 
-      -- by the number of its bytes, as code that takes them between two ends has it
-      pub row-bytes : {room′ : List ℕ} {r : Written} {n : ℕ} → n ≡ len
-          → Wrote (writeBytes code (take n (drop start values)) room place) room room′ place r
+      -- by their two ends
+      pub row-bytes : {room′ : List ℕ} {r : Written}
+          → Wrote (writeBytes code (take (start + len - start) (drop start values)) room place) room room′ place r
           → Wrote (writeRow code start len values) room room′ place r
       unfolding writeRow writeBytes
-      row-bytes e wrote =
-          let w = rw e at wrote in
+      row-bytes wrote =
+          let n : start + len - start ≡ len = omega arith in
+          let w = rw n at wrote in
           record {
             told = w .told ∙ sym (answers-alike room place refl row-alike);
             left = w .left ∙ sym (left-alike room place refl row-alike);

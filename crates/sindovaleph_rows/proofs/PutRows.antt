@@ -1,4 +1,4 @@
--- The rows one behind the other: how far a run has come, after a row that is written, at one that is refused, and where no whole row is left.
+-- The rows one behind the other: how far a run has come, after a row that is written, at one that is refused, and with no whole row left.
 -- Assumes nothing.
 use mathlib.Core.Path.{_≡_, refl, sym, ap, _∙_}
 use Prim.Native.Nat.{ℕ, suc, zero, _+_, _-_, _*_, _≤_, _<_}

@@ -30,7 +30,8 @@ writeRow code start len values =
       bytes = encode mostPart code (take len (drop start values));
     }
 
--- where a run of writes has come to: how many rows are written, what the room holds, and the place behind them; and a refusal's number, 0 for none
+-- where a run of writes has come to: how many rows are written, what the room holds, and the place behind them; and a refusal's
+-- number, 0 for none
 pub record Made : Type 0 where
   pub refusal : ℕ
   pub rows : ℕ

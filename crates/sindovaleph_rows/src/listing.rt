@@ -12,8 +12,8 @@ use borrowed::answer::Step;
 use crossing::answers::Value;
 use limits::MOST_BYTES;
 
-// What a listing answers: how many rows it filled, the stop as `Step` has it, 0 where there is no room for a further row, and the place where a further
-// call goes on. `refused` is the number of a refusal, 0 for none: it fills no row and leaves the place.
+// What a listing answers: how many rows it filled, the stop as `Step` has it, 0 where there is no room for a further row, and the
+// place where a further call goes on. `refused` is the number of a refusal, 0 for none: it fills no row and leaves the place.
 #[repr(C)]
 pub struct Listed {
     pub refused: u8,
@@ -29,8 +29,8 @@ struct Filled {
     place: usize,
 }
 
-// Lists the options from `place` on, four numbers a row: the code, the parts, the length of the value and the place behind the option, as `Step` has them.
-// Nothing is joined.
+// Lists the options from `place` on, four numbers a row: the code, the parts, the length of the value and the place behind the
+// option, as `Step` has them. Nothing is joined.
 #[no_mangle]
 pub extern "C" fn sindovaleph_list(area: &[u8], place: usize, rows: &mut [usize]) -> Listed
     ensures { λ r. ⌜ Lists found (now (area .entry)) place (now (rows .entry)) (now (rows .exit)) r ⌝ }
@@ -44,8 +44,8 @@ pub extern "C" fn sindovaleph_list(area: &[u8], place: usize, rows: &mut [usize]
     answer_of(fill(area, place, rows, 4, false), 4)
 }
 
-// The same with what each option reads as, plain or strict, eight numbers a row: the four of `sindovaleph_list`, then those of `Value`. Since nothing is
-// joined, an option of two parts or more is refused with 5, unless it is empty.
+// The same with what each option reads as, plain or strict, eight numbers a row: the four of `sindovaleph_list`, then those of
+// `Value`. Since nothing is joined, an option of two parts or more is refused with 5, unless it is empty.
 #[no_mangle]
 pub extern "C" fn sindovaleph_read_list(
     area: &[u8],

@@ -8,8 +8,9 @@ ghost use Rattle.sindovaleph_rows.specs.Writing.{WritesList, madeOf, wri
 use encoder::Written;
 use limits::MOST_BYTES;
 
-// What a write of rows answers: how many rows are written and the place behind them. The first row that is refused ends it; its number is told where it
-// is the first row of all, and a further call from there tells it else. A refusal changes nothing and leaves the place.
+// What a write of rows answers: how many rows are written and the place behind them. The first row that is refused ends it; its
+// number is told where it is the first row of all, and a further call from there tells it else. A refusal changes nothing and
+// leaves the place.
 #[repr(C)]
 pub struct WrittenRows {
     pub refused: u8,
@@ -17,8 +18,8 @@ pub struct WrittenRows {
     pub place: usize,
 }
 
-// Writes an option for each row at `place`, one behind the other, as byte values. A row has three numbers: the code, and where the value begins in `values`
-// and how long it is.
+// Writes an option for each row at `place`, one behind the other, as byte values. A row has three numbers: the code, and where the
+// value begins in `values` and how long it is.
 #[no_mangle]
 pub extern "C" fn sindovaleph_write_list(
     room: &mut [u8],

@@ -3,56 +3,31 @@
 use mathlib.Core.Path.{_≡_, refl}
 use mathlib.Core.List.{List, [], _∷_}
 use mathlib.Core.Option.{some}
-use Prim.Native.Nat.{ℕ, _≤_}
+use Prim.Native.Nat.{ℕ, _≤_, _<_}
 use native.Mathlib.Decide.{decLe}
 use native.Mathlib.Omega.{arith}
+use lib.ListN.{length, getD}
 use Rattle.facts.proofs.Ranges.{uniform, one-answer, outside}
-use Rattle.facts.specs.Ranges.{lookup}
+use Rattle.facts.specs.Ranges.{Row, row, lookup}
 use Rattle.rfc.specs.Text.{Range, range, tail, lead}
 use Rattle.rfc.proofs.Text.{lead-e0, lead-e1-ec, lead-ed, lead-ee-ef, lead-f0, lead-f1-f3, lead-f4}
-use Rattle.text.specs.Width.{lowests, lowestAfter, highests, highestAfter}
+use Rattle.text.specs.Width.{Asks, lowests, lowestAfter, highests, highestAfter}
 
 module _ (b : ℕ) where
-  -- the lowest and the highest, one for all first bytes of a range
-  lowest-from : (from to : ℕ) {low : ℕ} → from ≤ b → b ≤ to → uniform 0x80 lowests from to ≡ some low → lowestAfter b ≡ low
-  unfolding lowestAfter
-  lowest-from from to p q e = one-answer 0x80 from to b p q lowests _ e
+  -- what a table gives a byte that is one number, and a byte that neither of its two rows names
+  pub at-row : (other : ℕ) (rows : List (Row ℕ)) (k : ℕ) {v : ℕ} → b ≡ k → uniform other rows k k ≡ some v → lookup other rows b ≡ v
+  at-row other rows k e u = one-answer other k k b (omega arith) (omega arith) rows _ u
 
-  highest-from : (from to : ℕ) {high : ℕ} → from ≤ b → b ≤ to → uniform 0xbf highests from to ≡ some high → highestAfter b ≡ high
-  unfolding highestAfter
-  highest-from from to p q e = one-answer 0xbf from to b p q highests _ e
-
-  -- the lowest, as the code finds it
-  pub lowest-e0 : b ≡ 0xe0 → lowestAfter b ≡ 0xa0
-  unfolding lowests
-  lowest-e0 e = lowest-from 0xe0 0xe0 (omega arith) (omega arith) refl
-
-  pub lowest-f0 : b ≡ 0xf0 → lowestAfter b ≡ 0x90
-  unfolding lowests
-  lowest-f0 e = lowest-from 0xf0 0xf0 (omega arith) (omega arith) refl
-
-  pub lowest-other : (b ≡ 0xe0 → ⊥) → (b ≡ 0xf0 → ⊥) → lowestAfter b ≡ 0x80
-  unfolding lowestAfter lowests lookup
-  lowest-other n₁ n₂ = rw (outside 0xe0 b n₁, outside 0xf0 b n₂)
-
-  -- the highest
-  pub highest-ed : b ≡ 0xed → highestAfter b ≡ 0x9f
-  unfolding highests
-  highest-ed e = highest-from 0xed 0xed (omega arith) (omega arith) refl
-
-  pub highest-f4 : b ≡ 0xf4 → highestAfter b ≡ 0x8f
-  unfolding highests
-  highest-f4 e = highest-from 0xf4 0xf4 (omega arith) (omega arith) refl
-
-  pub highest-other : (b ≡ 0xed → ⊥) → (b ≡ 0xf4 → ⊥) → highestAfter b ≡ 0xbf
-  unfolding highestAfter highests lookup
-  highest-other n₁ n₂ = rw (outside 0xed b n₁, outside 0xf4 b n₂)
+  pub past-rows : (other k₁ v₁ k₂ v₂ : ℕ) → (b ≡ k₁ → ⊥) → (b ≡ k₂ → ⊥) → lookup other (row k₁ k₁ v₁ ∷ row k₂ k₂ v₂ ∷ []) b ≡ other
+  unfolding lookup
+  past-rows other k₁ v₁ k₂ v₂ n₁ n₂ = rw (outside k₁ b n₁, outside k₂ b n₂)
 
   -- a row of the grammar, said so
   bounded : (from to : ℕ) {low high : ℕ} {ranges : List Range} → from ≤ b → b ≤ to
       → uniform 0x80 lowests from to ≡ some low → uniform 0xbf highests from to ≡ some high
       → lead b ≡ some (range low high ∷ ranges) → lead b ≡ some (range (lowestAfter b) (highestAfter b) ∷ ranges)
-  bounded from to p q l h e = rw (lowest-from from to p q l, highest-from from to p q h) e
+  unfolding lowestAfter highestAfter
+  bounded from to p q l h e = rw (one-answer 0x80 from to b p q lowests _ l, one-answer 0xbf from to b p q highests _ h) e
 
   pub lead-e0-ef : 0xe0 ≤ b → b ≤ 0xef → lead b ≡ some (range (lowestAfter b) (highestAfter b) ∷ tail ∷ [])
   unfolding lowests highests
@@ -72,3 +47,10 @@ module _ (b : ℕ) where
       by (yes u) v = bounded 0xf0 0xf0 p u refl refl (lead-f0 b (omega arith))
       by (no u) (yes v) = bounded 0xf1 0xf3 (omega arith) v refl refl (lead-f1-f3 b (omega arith) v)
       by (no u) (no v) = bounded 0xf4 0xf4 (omega arith) q refl refl (lead-f4 b (omega arith))
+
+-- a place where such a byte stands, and the two that the code found for it
+pub asks-so : {text : List ℕ} {at low high : ℕ} {ranges : List Range} → at < length text
+    → low ≡ lowestAfter (getD text at 0) → high ≡ highestAfter (getD text at 0)
+    → lead (getD text at 0) ≡ some (range (lowestAfter (getD text at 0)) (highestAfter (getD text at 0)) ∷ ranges)
+    → Asks text at (range low high ∷ ranges)
+asks-so h l u e = record { there = h; leads = rw (l, u) e }

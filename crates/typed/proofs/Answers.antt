@@ -1,20 +1,20 @@
 -- What the typed writers share: what the number of `refusal` tells, when bytes of a kind are written as a byte value, and from bytes of a
 -- kind to a value of it.
 -- Assumes nothing.
-use mathlib.Core.Path.{_≡_, refl, sym, ap, _∙_, subst}
-use Prim.Native.Nat.{ℕ, _≤_, _<_}
+use mathlib.Core.Path.{_≡_, sym, ap, _∙_, subst}
+use Prim.Native.Nat.{ℕ, _<_}
 use mathlib.Core.Bool.{false}
 use mathlib.Core.List.{List, [], _∷_}
 use native.Mathlib.Omega.{arith}
 use lib.ListN.{length}
 use Rattle.facts.specs.BigEndian.{digits}
 use Rattle.facts.proofs.BigEndian.{length-digits}
-use Rattle.rfc.specs.Numbers.{Check, mostPart}
+use Rattle.rfc.specs.Numbers.{firstRefusal, mostPart}
 use Rattle.rfc.specs.Kinds.{sizeOf}
 use Rattle.rfc.specs.Values.{Content, natural, notText}
 use Rattle.rfc.specs.Writing.{Write, encode, writeSlice, writeBytes}
 use Rattle.rfc.specs.Typed.{bytesIn, partSize, codeChecks, writeKind}
-use Rattle.rfc.proofs.Numbers.{Refuses, Clear, one-refuser, not-both}
+use Rattle.rfc.proofs.Numbers.{Clear, is-first}
 use Rattle.rfc.proofs.Values.{Scalar}
 use Rattle.rfc.proofs.Readings.{no-text}
 use Rattle.rfc.proofs.Typed.{parts-bytes, single, encode-kind, encode-scalar, encode-flag, no-pairs}
@@ -23,30 +23,14 @@ use Rattle.encoder.specs.Written.{Wrote}
 use Rattle.encoder.specs.declared.Written.{Written}
 use Rattle.encoder.specs.declared.Written.the-variants.{Refused}
 use Rattle.encoder.proofs.Answers.{refuses, same-bytes, same-wrote}
-use Rattle.typed.specs.Writes.{Writes, Decides, none, first, AsBytes}
-
--- a number above 0 is the first refusal, and 0 is none
-decides-some : {checks : List Check} {k : ℕ} → Decides checks k → 0 < k → Refuses checks k
-decides-some (none c) h = absurd (omega arith)
-decides-some (first p r) h = r
-
-pub decides-none : {checks : List Check} {k : ℕ} → Decides checks k → k ≤ 0 → Clear checks
-decides-none (none c) h = c
-decides-none (first p r) h = absurd (omega arith)
-
--- checks give one number
-pub decides-one : {checks : List Check} {j k : ℕ} → Decides checks j → Decides checks k → j ≡ k
-decides-one (none c) (none d) = refl
-decides-one (none c) (first q s) = absurd (not-both c s)
-decides-one (first p r) (none d) = absurd (not-both d r)
-decides-one (first p r) (first q s) = one-refuser r s
+use Rattle.typed.specs.Writes.{Writes, AsBytes}
 
 -- bytes of a kind
 module _ (kind code : ℕ) (v room : List ℕ) (place : ℕ) where
   -- refused by the room, the place or the code
-  pub code-refused : {k : ℕ} → Decides (codeChecks kind code room place) k → 0 < k
+  pub code-refused : {k : ℕ} → k ≡ firstRefusal (codeChecks kind code room place) → 0 < k
       → Wrote (writeKind kind code v room place) room room place (Refused k)
-  code-refused {k} d h = refuses _ room place k (kind-code kind code v room place (decides-some d h))
+  code-refused {k} e h = refuses _ room place k (kind-code kind code v room place (is-first _ e h))
 
   module _ {room′ : List ℕ} {r : Written} where
     -- written as a byte value

@@ -1,9 +1,9 @@
 -- Any two answers that a contract of this crate allows are equal, and so are the rooms that a writer leaves.
 -- Assumes nothing.
+use mathlib.Core.Path.{sym, _∙_}
 use denote.Ref.{now}
 use Rattle.facts.proofs.Unique.{Unique, UniqueLeft}
 use Rattle.encoder.proofs.Answers.{wrote-one}
-use Rattle.typed.proofs.Answers.{decides-one}
 use Rattle.typed.proofs.checks.refusal.Kinds as refusal-kinds
 use Rattle.typed.proofs.checks.refusal.Reads as refusal
 use Rattle.typed.proofs.write_address.Kinds as write-address-kinds
@@ -32,7 +32,7 @@ use Rattle.typed.proofs.write_codes.Kinds as write-codes-kinds
 use Rattle.typed.proofs.write_codes.Reads as write-codes
 
 refusal-unique : Unique 1 refusal-kinds.ps refusal-kinds.r refusal.Post
-refusal-unique κs a x y s t p q = decides-one p q
+refusal-unique κs a x y s t p q = p ∙ sym q
 
 write-address-unique : UniqueLeft 1 write-address-kinds.ps write-address-kinds.r write-address.Post (λ κs s. now (s .0))
 write-address-unique κs a x y s t p q = wrote-one p q

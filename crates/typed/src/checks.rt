@@ -1,13 +1,15 @@
 // What is alike in every typed write: the checks of the room, the place and the code, and bytes that are cut as a byte value is.
+ghost use mathlib.Core.Path.{_≡_};
+ghost use Rattle.rfc.specs.Numbers.{firstRefusal};
 ghost use Rattle.rfc.specs.Typed.{codeChecks, writeKind};
 ghost use Rattle.encoder.specs.Written.{Wrote};
-ghost use Rattle.typed.specs.Writes.{Decides, AsBytes};
+ghost use Rattle.typed.specs.Writes.{AsBytes};
 use encoder::Written;
 use limits::MOST_BYTES;
 
 // The number of the first refusal by the room, the place or the code; 0 where there is none.
 pub fn refusal(room: &[u8], place: usize, code: u8, kind: u8) -> u8
-    ensures { λ r. ⌜ Decides (codeChecks kind code (now (room .entry)) place) r ⌝ }
+    ensures { λ r. ⌜ r ≡ firstRefusal (codeChecks kind code (now (room .entry)) place) ⌝ }
 {
     if room.len() > MOST_BYTES {
         return 2;

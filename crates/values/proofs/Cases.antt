@@ -62,8 +62,13 @@ module _ {kind : ℕ} {v : List ℕ} (right : Right kind v) {k : ℕ} (is : kind
     scalar r e none named = tells r (value k (holds s v)) e (scalar-value v s) (none ∙ sym (scalar-single v s)) named
 
   -- one byte is its number
-  pub first-byte : Scalar k 1 → getD v 0 0 ≡ number (take 1 v)
-  first-byte s = let h = fits s in byte-at v 0 (omega arith)
+  module _ (s : Scalar k 1) where
+    pub first-byte : getD v 0 0 ≡ number (take 1 v)
+    first-byte = let h = fits s in byte-at v 0 (omega arith)
+
+    pub scalar-byte : (r : ℕ → Value) → says (r (number (take 1 v))) v ≡ value k (holds s v) → countOf (r (getD v 0 0)) ≡ 0
+        → Named (r (getD v 0 0)) → Tells v (given (valueOf kind v)) (r (getD v 0 0))
+    scalar-byte r e none named = scalar s _ (ap (λ (n : ℕ). says (r n) v) first-byte ∙ e) none named
 
   module _ {width n : ℕ} (l : Listed k width n) where
     pub some-size : 0 < sizeOf kind

@@ -1,6 +1,6 @@
 -- The element at an index of a list, as the code reads it.
 -- Assumes nothing.
-use mathlib.Core.Path.{_≡_, refl, sym, ap, _∙_, subst}
+use mathlib.Core.Path.{_≡_, refl, sym, ap, _∙_}
 use Prim.Native.Nat.{ℕ, _+_, _*_, _/_, _≤_, _<_}
 use mathlib.Core.Bool.{false}
 use mathlib.Core.List.{List, [], _∷_}
@@ -16,7 +16,10 @@ use Rattle.rfc.specs.Values.{plain, wrongLength, valueOf, read, elements, eleme
 use Rattle.rfc.proofs.Values.{kind-kept, Listed, addresses, pairs, u16s, codes}
 use Rattle.rfc.proofs.Elements.{listed-count, listed-size, one-entry, pair-entries, element-there, element-none, element-given}
 use Rattle.rfc.proofs.Readings.{read-right}
-use Rattle.values.specs.Reading.{says, countOf, Tells, Entry, entryAt}
+use Rattle.values.specs.Reading.{says, countOf, Tells, ReadAs, Entry, entryAt}
+use Rattle.values.specs.declared.answer.Reading.{Reading}
+use Rattle.values.specs.declared.answer.Reading.the-variants.{Is}
+use Rattle.values.proofs.Cases.{is-value}
 use Rattle.values.specs.declared.answer.Value.{Value}
 use Rattle.values.specs.declared.answer.Value.the-variants as case
 
@@ -30,10 +33,10 @@ last-kind codes n₂ n₃ n₇ = refl
 -- an element of a list that has it
 module _ {kind index : ℕ} {v : List ℕ} (e : Entry kind v index) {k width n : ℕ} (is : kind ≡ k) (l : Listed k width n) where
   right : wrongLength plain k v ≡ false
-  right = subst (λ (j : ℕ). wrongLength plain j v ≡ false) is (e .length-right)
+  right = rw is at (e .length-right)
 
   below : index < length v / sizeOf k
-  below = subst (λ (j : ℕ). index < j) (ap (λ (j : ℕ). length (elements (valueOf j v))) is ∙ listed-count l v right) (e .below)
+  below = rw (is, listed-count l v right) at (e .below)
 
   module _ {size : ℕ} (s : size ≡ sizeOf kind) where
     size-is : size ≡ n * width
@@ -44,15 +47,7 @@ module _ {kind index : ℕ} {v : List ℕ} (e : Entry kind v index) {k width n :
     start = ap (λ (j : ℕ). index * j) size-is
 
     pub lies : index * size + n * width ≤ length v
-    lies =
-        subst (λ (j : ℕ). index * size + j ≤ length v) size-is
-        (subst (λ (j : ℕ). index * j + j ≤ length v) (sym (s ∙ ap sizeOf is)) (piece-lies (sizeOf k) (length v) index below))
-
-  -- the element, by its numbers
-  entry-is : (entries : List ℕ) → getD (elements (valueOf k v)) index [] ≡ entries
-      → given (record { kind = k; entries = entries }) ≡ entryAt kind v index
-  entry-is entries f =
-      ap (λ (x : List ℕ). given (record { kind = k; entries = x })) (sym f) ∙ ap (λ (j : ℕ). entryAt j v index) (sym is)
+    lies = rw (← size-is, s, is) (piece-lies (sizeOf k) (length v) index below)
 
 module _ {kind index size : ℕ} {v : List ℕ} (e : Entry kind v index) (s : size ≡ sizeOf kind) where
   -- it begins inside, whatever the list
@@ -64,48 +59,41 @@ module _ {kind index size : ℕ} {v : List ℕ} (e : Entry kind v index) (s : si
       → given (record { kind = k; entries = x ∷ [] }) ≡ entryAt kind v index
   one {width = width} is l x f =
       let at : index * size ≡ index * width = start e is l s ∙ ap (λ (j : ℕ). index * j) (one-mul width) in
-      entry-is e is l (x ∷ [])
-      (one-entry l v (right e is l) index (below e is l)
-      ∙ ap (λ (j : ℕ). number (take width (drop j v)) ∷ []) (sym at)
-      ∙ ap (λ (j : ℕ). j ∷ []) (sym f))
+      rw (is, one-entry l v (right e is l) index (below e is l), f, at)
 
   -- a pair
   pub two : kind ≡ 3 → (x y : ℕ) → x ≡ number (take 4 (drop (index * size) v)) → y ≡ number (take 4 (drop (index * size + 4) v))
       → given (record { kind = 3; entries = x ∷ y ∷ [] }) ≡ entryAt kind v index
   two is x y f g =
-      let l : Listed 3 4 2 = pairs in
-      let at : index * size ≡ index * 8 = start e is l s in
-      entry-is e is l (x ∷ y ∷ [])
-      (pair-entries v (right e is l) index (below e is l)
-      ∙ ap (λ (j : ℕ). number (take 4 (drop j v)) ∷ number (take 4 (drop (j + 4) v)) ∷ []) (sym at)
-      ∙ sym (λ i. f i ∷ g i ∷ []))
+      let at : index * size ≡ index * 8 = start e is pairs s in
+      rw (is, pair-entries v (right e is pairs) index (below e is pairs), f, g, at)
 
 -- what has elements is a list
 entry-of : (r : Value) (v : List ℕ) (index : ℕ) → index < countOf r → wrongLength plain (says r v .kind) v ≡ false
     → index < length (elements (valueOf (says r v .kind) v)) → Entry (says r v .kind) v index
-entry-of case.Raw v index some right below = absurd (omega arith)
-entry-of (case.Address n) v index some right below = absurd (omega arith)
-entry-of (case.Addresses count) v index some right below =
-    record { width = 4; n = 1; is-list = addresses; length-right = right; below = below }
-entry-of (case.Pairs count) v index some right below =
-    record { width = 4; n = 2; is-list = pairs; length-right = right; below = below }
-entry-of (case.Byte n) v index some right below = absurd (omega arith)
-entry-of (case.YesNo t) v index some right below = absurd (omega arith)
-entry-of (case.U16 n) v index some right below = absurd (omega arith)
-entry-of (case.U16s count) v index some right below =
-    record { width = 2; n = 1; is-list = u16s; length-right = right; below = below }
-entry-of (case.U32 n) v index some right below = absurd (omega arith)
-entry-of (case.I32 z) v index some right below = absurd (omega arith)
-entry-of case.Text v index some right below = absurd (omega arith)
-entry-of (case.Codes count) v index some right below =
-    record { width = 1; n = 1; is-list = codes; length-right = right; below = below }
-entry-of (case.NodeType node) v index some right below = absurd (omega arith)
-entry-of (case.MessageType n) v index some right below = absurd (omega arith)
-entry-of (case.ThreeBytes a b c) v index some right below = absurd (omega arith)
-entry-of case.Flag v index some right below = absurd (omega arith)
+entry-of case.Raw v index h r b = absurd (omega arith)
+entry-of (case.Address n) v index h r b = absurd (omega arith)
+entry-of (case.Addresses count) v index h r b = record { width = 4; n = 1; is-list = addresses; length-right = r; below = b }
+entry-of (case.Pairs count) v index h r b = record { width = 4; n = 2; is-list = pairs; length-right = r; below = b }
+entry-of (case.Byte n) v index h r b = absurd (omega arith)
+entry-of (case.YesNo t) v index h r b = absurd (omega arith)
+entry-of (case.U16 n) v index h r b = absurd (omega arith)
+entry-of (case.U16s count) v index h r b = record { width = 2; n = 1; is-list = u16s; length-right = r; below = b }
+entry-of (case.U32 n) v index h r b = absurd (omega arith)
+entry-of (case.I32 z) v index h r b = absurd (omega arith)
+entry-of case.Text v index h r b = absurd (omega arith)
+entry-of (case.Codes count) v index h r b = record { width = 1; n = 1; is-list = codes; length-right = r; below = b }
+entry-of (case.NodeType node) v index h r b = absurd (omega arith)
+entry-of (case.MessageType n) v index h r b = absurd (omega arith)
+entry-of (case.ThreeBytes x y z) v index h r b = absurd (omega arith)
+entry-of case.Flag v index h r b = absurd (omega arith)
 
 -- the element of what was read
-module _ (code : ℕ) (v : List ℕ) (index : ℕ) (held : Value) (t : Tells v (read plain code v) held) where
+module _ (code : ℕ) (v : List ℕ) (index : ℕ) {reading : Reading} {held : Value} (e : reading ≡ Is held)
+    (read-as : ReadAs v (read plain code v) reading) where
+  t : Tells v (read plain code v) held
+  t = is-value v (read plain code v) e read-as
+
   of-held : element index (read plain code v) ≡ elementAt index (says held v)
   of-held = element-given index (read plain code v) (says held v) (sym (t .told))
 
@@ -117,17 +105,15 @@ module _ (code : ℕ) (v : List ℕ) (index : ℕ) (held : Value) (t : Tells v (
     was-right = read-right plain code v (says held v) (sym (t .told))
 
     value-is : valueOf kind v ≡ says held v
-    value-is = ap (λ (j : ℕ). valueOf j v) is ∙ was-right .1
+    value-is = rw is (was-right .1)
 
     kind-is : says held v .kind ≡ kind
     kind-is = ap (λ (x : rfc.Value). x .kind) (sym value-is) ∙ kind-kept v kind
 
     pub an-entry : Entry kind v index
     an-entry =
-        subst (λ (k : ℕ). Entry k v index) kind-is
-        (entry-of held v index there (ap (λ (k : ℕ). wrongLength plain k v) (kind-is ∙ is) ∙ was-right .0)
-        (subst (λ (x : rfc.Value). index < length (elements x)) (sym (ap (λ (k : ℕ). valueOf k v) kind-is ∙ value-is))
-        (omega (arith, t .exact .counted))))
+        rw kind-is at
+        (entry-of held v index there (rw (kind-is, is) (was-right .0)) (rw (kind-is, value-is) (omega (arith, t .exact .counted))))
 
     pub an-element : entryAt kind v index ≡ element index (read plain code v)
     an-element =

@@ -6,15 +6,6 @@ use borrow.Author.Needs.{needs}
 use Rattle.encoder.proofs.block_4.Statement.{statement}
 use Rattle.encoder.proofs.block_4.Tie as tie
 
-four-requires : tie.Need-four-requires
-four-requires c κs = search needs
-
-put-four-requires : tie.Need-put-four-requires
-put-four-requires c κs = search needs
-
-same-length : tie.Need-same-length
-same-length c = search needs
-
 returns : tie.Need-returns
 returns c =
     let put = c .before .before in
@@ -23,4 +14,4 @@ returns c =
     put .put-four .ensures ∙ ap (over (a .to .now) (a .at)) (read .four .ensures)
 
 pub block-4-spec : {M : Type 1} → statement M
-block-4-spec = tie.close (tie.spec four-requires put-four-requires same-length returns)
+block-4-spec = tie.close (tie.spec (λ c κs. search needs) (λ c κs. search needs) (λ c. search needs) returns)

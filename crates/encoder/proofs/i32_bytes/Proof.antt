@@ -8,16 +8,10 @@ use borrow.Author.Needs.{needs}
 use Rattle.encoder.proofs.i32_bytes.Statement.{statement}
 use Rattle.encoder.proofs.i32_bytes.Tie as tie
 
-bits-of-requires : tie.Need-bits-of-requires
-bits-of-requires c κs = search needs
-
-u32-bytes-requires : tie.Need-u32-bytes-requires
-u32-bytes-requires c κs = search needs
-
 returns : tie.Need-returns
 returns c =
     let bits = c .before .bits-of in
     c .u32-bytes .ensures ∙ ap (digits 4) (bits .ensures ∙ ap unsigned (toZ-ofZ {w = w32} (c .before .before .fits .number)))
 
 pub i32-bytes-spec : {M : Type 1} → statement M
-i32-bytes-spec = tie.close (tie.spec bits-of-requires u32-bytes-requires returns)
+i32-bytes-spec = tie.close (tie.spec (λ c κs. search needs) (λ c κs. search needs) returns)

@@ -6,15 +6,6 @@ use borrow.Author.Needs.{needs}
 use Rattle.encoder.proofs.put_u32.Statement.{statement}
 use Rattle.encoder.proofs.put_u32.Tie as tie
 
-u32-bytes-requires : tie.Need-u32-bytes-requires
-u32-bytes-requires c κs = search needs
-
-put-four-requires : tie.Need-put-four-requires
-put-four-requires c κs = search needs
-
-same-length : tie.Need-same-length
-same-length c = search needs
-
 returns : tie.Need-returns
 returns c =
     let put = c .before .before in
@@ -23,4 +14,4 @@ returns c =
     put .put-four .ensures ∙ ap (over (a .room .now) (a .at)) (made .u32-bytes .ensures)
 
 pub put-u32-spec : {M : Type 1} → statement M
-put-u32-spec = tie.close (tie.spec u32-bytes-requires put-four-requires same-length returns)
+put-u32-spec = tie.close (tie.spec (λ c κs. search needs) (λ c κs. search needs) (λ c. search needs) returns)

@@ -1,58 +1,33 @@
--- `put_u32s` meets its contract: after i turns the first i numbers are put (`Put`).
+-- `put_u32s` meets its contract: after i turns the bytes of the first i numbers are put.
 -- Assumes nothing.
-use Prim.Native.Nat.{_+_, _-_, _*_, _≤_}
-use native.Mathlib.Omega.{arith}
+use Prim.Native.Nat.{_-_, _*_}
 use lib.ListN.{length}
-use Rattle.encoder.proofs.Turns.{Put, put-none, put-fits, put-more, put-all}
+use borrow.Author.Needs.{needs}
+use Rattle.facts.proofs.Laid.{Laid}
+use Rattle.rfc.specs.Typed.{digitsOf}
+use Rattle.encoder.proofs.Turns.{put-none, put-more, put-all}
 use Rattle.encoder.proofs.put_u32s.Statement.{statement}
 use Rattle.encoder.proofs.put_u32s.Tie as tie
 
 abbrev Inv-loop : tie.InvT-loop
-Inv-loop room₀ place numbers i₀ room i = Put 4 room₀ room numbers place i
+Inv-loop room₀ place numbers i₀ room i = Laid room₀ room (digitsOf 4 numbers) place (4 * i)
 
 abbrev μ-loop : tie.MeasureT-loop
 μ-loop room₀ place numbers i₀ room i = length numbers - i
 
--- the next number is among those that are to be put
-fits : (c : tie.In-loop Inv-loop μ-loop)
-    → 4 * c .before .loop .i + 4 ≤ 4 * length (c .before .before .before .before .args .numbers .now)
-fits c = put-fits 4 (c .before .loop .inv) (c .loop-test .taken)
-
 loop-holds : tie.Need-loop-holds Inv-loop μ-loop
-loop-holds c = put-none 4
-
-mul-put-u32 : tie.Need-mul-put-u32 Inv-loop μ-loop
-mul-put-u32 c = omega (arith, fits (c .before))
-
-add-put-u32 : tie.Need-add-put-u32 Inv-loop μ-loop
-add-put-u32 c = omega (arith, fits (c .before))
-
-mul-put-u32-2 : tie.Need-mul-put-u32-2 Inv-loop μ-loop
-mul-put-u32-2 c = omega (arith, fits (c .before))
-
-shared-slice-read-put-u32 : tie.Need-shared-slice-read-put-u32 Inv-loop μ-loop
-shared-slice-read-put-u32 c = omega arith
-
-put-u32-requires : tie.Need-put-u32-requires Inv-loop μ-loop
-put-u32-requires c κs = omega (arith, fits (c .before .before))
-
-add-i : tie.Need-add-i Inv-loop μ-loop
-add-i c = omega arith
-
-loop-less : tie.Need-loop-less Inv-loop μ-loop
-loop-less c = omega arith
+loop-holds c = put-none 4 _ (c .before .before .pre)
 
 loop-again : tie.Need-loop-again Inv-loop μ-loop
 loop-again c =
     let turn = c .before .before .before .before .before in
-    let wrote = c .before .before .put-u32 in
-    put-more 4 (turn .before .loop .inv) (turn .loop-test .taken) (wrote .last .0) (omega arith) (wrote .kept .0) (wrote .ensures)
+    put-more 4 _ _ (turn .before .loop .inv) (turn .loop-test .taken) (c .before .before .put-u32 .ensures)
 
 same-length : tie.Need-same-length Inv-loop μ-loop
 same-length c = c .before .loop .inv .keeps
 
 returns : tie.Need-returns Inv-loop μ-loop
-returns c = put-all 4 (c .before .loop .inv) (c .loop-test .left)
+returns c = put-all 4 _ _ (c .before .loop .inv) (c .loop-test .left)
 
 pub put-u32s-spec : {M : Type 1} → statement M
 put-u32s-spec =
@@ -61,13 +36,13 @@ put-u32s-spec =
     Inv-loop
     μ-loop
     loop-holds
-    mul-put-u32
-    add-put-u32
-    mul-put-u32-2
-    shared-slice-read-put-u32
-    put-u32-requires
-    add-i
-    loop-less
+    (λ c. search needs)
+    (λ c. search needs)
+    (λ c. search needs)
+    (λ c. search needs)
+    (λ c κs. search needs)
+    (λ c. search needs)
+    (λ c. search needs)
     loop-again
     same-length
     returns)

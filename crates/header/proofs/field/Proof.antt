@@ -17,7 +17,7 @@ use Rattle.header.proofs.field.Tie as tie
 -- behind the checks: the header is whole, and a field of w bytes is the number that they are
 module _ (c : tie.Else1) where
   there : Whole (c .before .before .before .args .message .now)
-  there = whole _ _ (c .before .refusal-of .ensures) (c .if1 .left)
+  there = whole _ (c .before .refusal-of .ensures) (c .if1 .left)
 
   reads : (w n : ℕ) → let a = c .before .before .before .args in
       a .size ≡ w → n ≡ number (bytesOf (part (a .start) w) (a .message .now))
@@ -28,13 +28,10 @@ module _ (c : tie.Else1) where
       ∙ ap (λ (k : ℕ). given (number (bytesOf (part (a .start) k) (a .message .now)))) (sym width)
       ∙ sym (field-given (a .message .now) (part (a .start) (a .size)) (clear _ there))
 
-refusal-of-requires : tie.Need-refusal-of-requires
-refusal-of-requires c κs = search needs
-
 returns : tie.Need-returns
 returns c =
     let a = c .before .before .before .args in
-    let refuses = refused-by (a .message .now) _ (c .before .refusal-of .ensures) (c .if1 .taken) in
+    let refuses = refused-by (a .message .now) (c .before .refusal-of .ensures) (c .if1 .taken) in
     sym (field-refused (a .message .now) (part (a .start) (a .size)) refuses)
 
 shared-slice-read-t7 : tie.Need-shared-slice-read-t7
@@ -52,17 +49,11 @@ returns-2 c =
 u16-at-requires : tie.Need-u16-at-requires
 u16-at-requires c κs = omega (arith, there (c .before .before) .least)
 
-cast-t10 : tie.Need-cast-t10
-cast-t10 c = search needs
-
 returns-3 : tie.Need-returns-3
 returns-3 c = reads (c .before .before .before) 2 _ (omega arith) (c .u16-at .ensures)
 
 u32-at-requires : tie.Need-u32-at-requires
 u32-at-requires c κs = omega (arith, there (c .before .before) .least)
-
-cast-t12 : tie.Need-cast-t12
-cast-t12 c = search needs
 
 returns-4 : tie.Need-returns-4
 returns-4 c = reads (c .before .before .before) 4 _ (omega arith) (c .u32-at .ensures)
@@ -71,14 +62,14 @@ pub field-spec : {M : Type 1} → statement M
 field-spec =
     tie.close
     (tie.spec
-    refusal-of-requires
+    (λ c κs. search needs)
     returns
     shared-slice-read-t7
     cast-t8
     returns-2
     u16-at-requires
-    cast-t10
+    (λ c. search needs)
     returns-3
     u32-at-requires
-    cast-t12
+    (λ c. search needs)
     returns-4)

@@ -8,18 +8,11 @@ use borrow.Author.Needs.{needs}
 use Rattle.kinds.proofs.element_size.Statement.{statement}
 use Rattle.kinds.proofs.element_size.Tie as tie
 
-returns : tie.Need-returns
-returns c = sym (size-past (c .before .args .kind) (search needs))
-
-mul-result : tie.Need-mul-result
-mul-result c = search needs
-
-array-read-result : tie.Need-array-read-result
-array-read-result c = search needs
-
-returns-2 : tie.Need-returns-2
-unfolding sizeOf sizes
-returns-2 c = at sizeOf 16 (c .before .args .kind) (search needs)
-
 pub element-size-spec : {M : Type 1} → statement M
-element-size-spec = tie.close (tie.spec returns mul-result array-read-result returns-2)
+unfolding sizeOf sizes
+element-size-spec =
+    tie.close
+    (tie.spec
+    (λ c. sym (size-past (c .before .args .kind) (search needs)))
+    (λ c. search needs) (λ c. search needs)
+    (λ c. at sizeOf 16 (c .before .args .kind) (search needs)))

@@ -7,12 +7,6 @@ use borrow.Author.Needs.{needs}
 use Rattle.kinds.proofs.kind_in_table.Statement.{statement}
 use Rattle.kinds.proofs.kind_in_table.Tie as tie
 
-array-read-result : tie.Need-array-read-result
-array-read-result c = search needs
-
-returns : tie.Need-returns
-unfolding kindOf kinds lookup within
-returns c = at kindOf 256 (c .args .code) (search needs)
-
 pub kind-in-table-spec : {M : Type 1} → statement M
-kind-in-table-spec = tie.close (tie.spec array-read-result returns)
+unfolding kindOf kinds lookup within
+kind-in-table-spec = tie.close (tie.spec (λ c. search needs) (λ c. at kindOf 256 (c .args .code) (search needs)))

@@ -8,24 +8,10 @@ use borrow.Author.Needs.{needs}
 use Rattle.kinds.proofs.kind_of.Statement.{statement}
 use Rattle.kinds.proofs.kind_of.Tie as tie
 
-word-of-requires : tie.Need-word-of-requires
-word-of-requires c κs = search needs
-
-mul-result : tie.Need-mul-result
-mul-result c = search needs
-
-cast-result : tie.Need-cast-result
-cast-result c = search needs
-
-shr-result : tie.Need-shr-result
-shr-result c = omega arith
-
-cast-result-2 : tie.Need-cast-result-2
-cast-result-2 c = search needs
-
-returns : tie.Need-returns
-returns c = let code = c .before .args .code in
-    ap (λ (w : ℕ). w / 2 ^ (code % 16 * 4) % 16) (c .word-of .ensures) ∙ kind-in-word code
-
 pub kind-of-spec : {M : Type 1} → statement M
-kind-of-spec = tie.close (tie.spec word-of-requires mul-result cast-result shr-result cast-result-2 returns)
+kind-of-spec =
+    tie.close
+    (tie.spec
+    (λ c κs. search needs)
+    (λ c. search needs) (λ c. search needs) (λ c. omega arith) (λ c. search needs)
+    (λ c. ap (λ (w : ℕ). w / 2 ^ (c .before .args .code % 16 * 4) % 16) (c .word-of .ensures) ∙ kind-in-word (c .before .args .code)))

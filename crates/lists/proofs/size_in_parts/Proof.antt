@@ -11,24 +11,12 @@ use Rattle.lists.proofs.size_in_parts.Tie as tie
 few : (c : tie.Start) → (c .args .len + (c .args .most - 1)) / c .args .most ≤ c .args .len + (c .args .most - 1)
 few c = div-le-self (c .args .len + (c .args .most - 1)) (c .args .most)
 
-sub-result : tie.Need-sub-result
-sub-result c = search needs
-
-add-result : tie.Need-add-result
-add-result c = search needs
-
-div-result : tie.Need-div-result
-div-result c = search needs
-
 mul-result : tie.Need-mul-result
 mul-result c = omega (arith, few c)
 
 add-result-2 : tie.Need-add-result-2
 add-result-2 c = omega (arith, few c)
 
-returns : tie.Need-returns
-returns c = search needs
-
 pub size-in-parts-spec : {M : Type 1} → statement M
 size-in-parts-spec =
-    tie.close (tie.spec sub-result add-result div-result mul-result add-result-2 returns)
+    tie.close (tie.spec (λ c. search needs) (λ c. search needs) (λ c. search needs) mul-result add-result-2 (λ c. search needs))

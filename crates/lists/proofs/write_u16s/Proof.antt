@@ -1,139 +1,63 @@
 -- `write_u16s` meets its contract: a law of a list's write for each return, in the order of the checks.
 -- Assumes nothing.
-use mathlib.Core.Path.{_≡_}
-use Prim.Native.Nat.{ℕ, _*_, _≤_}
-use mathlib.Core.Bool.{false}
-use mathlib.Core.List.{List}
 use native.Mathlib.Omega.{arith}
-use denote.Ref.{now}
-use lib.Dec.{lit<}
-use lib.ListN.{length}
-use Rattle.rfc.specs.Numbers.{mostBytes, mostValue}
-use Rattle.rfc.specs.Values.{numbers}
-use Rattle.rfc.specs.Typed.{digitsOf, oddPairs, codeChecks}
-use Rattle.rfc.proofs.Numbers.{Clear}
 use Rattle.rfc.proofs.Values.{u16s}
-use Rattle.rfc.proofs.Typed.{code-within, no-pairs, listed-bytes}
-use Rattle.typed.proofs.Answers.{decides-none, code-refused, holds}
-use Rattle.lists.proofs.Cuts.{cut-u16s, list-7, list-8, list-fits, list-to}
+use Rattle.rfc.proofs.Typed.{no-pairs}
+use Rattle.typed.proofs.Answers.{code-refused}
+use Rattle.lists.proofs.Cuts.{cut-u16s, Checked, list-checked, Measured, list-holds, list-7, list-8, list-ready, list-to}
 use borrow.Author.Needs.{needs}
 use Rattle.lists.proofs.write_u16s.Statement.{statement}
 use Rattle.lists.proofs.write_u16s.Tie as tie
 
--- what is written, and where
-abbrev list : tie.Start → List ℕ
-list c = now (c .args .u16s)
+-- behind the first test, the room, the place and the code are right
+checked : (c : tie.Else1) → let a = c .before .before .before .before .before .args in
+    Checked 7 2 127 (a .code) (a .place) (a .u16s .now) (a .room .now)
+checked c = list-checked cut-u16s _ _ _ _ (c .before .refusal .ensures) (c .if1 .left) (no-pairs 7 _ (λ z. omega arith))
 
-abbrev room : tie.Start → List ℕ
-room c = now (c .args .room)
-
--- the start, from behind the first test
-abbrev start : tie.Else1 → tie.Start
-start c = c .before .before .before .before .before
-
--- behind it, the room, the place and the code are right
-clear : (c : tie.Else1) → Clear (codeChecks 7 (start c .args .code) (room (start c)) (start c .args .place))
-clear c = decides-none (c .before .refusal .ensures) (c .if1 .left)
-
-within : (c : tie.Else1) → (length (room (start c)) ≤ mostBytes) × (start c .args .place ≤ length (room (start c)))
-within c = code-within 7 (start c .args .code) (room (start c)) (start c .args .place) (clear c)
-
-even : (l : List ℕ) → oddPairs 7 (digitsOf 2 l) ≡ false
-even l = no-pairs 7 (digitsOf 2 l) (λ z. omega arith)
-
--- behind the second, the list is not too long
-few : (c : tie.Else2) → 2 * length (list (start (c .before))) ≤ mostValue
-few c = omega arith
-
-refusal-requires : tie.Need-refusal-requires
-refusal-requires c κs = search needs
-
-same-length : tie.Need-same-length
-same-length c = search needs
+-- and behind the second, the list is not too long
+measured : (c : tie.After-size-in-parts) → let a = c .before .before .before .before .before .before .before .args in
+    Measured 7 2 127 (a .code) (a .place) (a .u16s .now) (a .room .now) (c .size-in-parts .result)
+measured c = record { checked = checked (c .before .before); few = omega arith; size-is = c .size-in-parts .ensures }
 
 returns : tie.Need-returns
-returns c =
-    let s = c .before .before .before .before .before in
-    let v : List ℕ = digitsOf 2 (list s) in
-    holds 7 (s .args .code) v (room s) (s .args .place) (numbers (list s)) (listed-bytes u16s (list s))
-    (code-refused 7 (s .args .code) v (room s) (s .args .place) (c .before .refusal .ensures) (c .if1 .taken))
-
-same-length-2 : tie.Need-same-length-2
-same-length-2 c = search needs
+returns c = list-holds u16s _ _ _ _ (code-refused 7 _ _ _ _ (c .before .refusal .ensures) (c .if1 .taken))
 
 returns-2 : tie.Need-returns-2
-returns-2 c =
-    let s = start (c .before) in
-    holds 7 (s .args .code) (digitsOf 2 (list s)) (room s) (s .args .place) (numbers (list s)) (listed-bytes u16s (list s))
-    (list-7 cut-u16s (s .args .code) (list s) (room s) (s .args .place) (clear (c .before)) (even (list s)) (omega arith))
-
-mul-size-in-parts : tie.Need-mul-size-in-parts
-mul-size-in-parts c = omega arith
-
-mul-size-in-parts-2 : tie.Need-mul-size-in-parts-2
-mul-size-in-parts-2 c = omega arith
-
-size-in-parts-requires : tie.Need-size-in-parts-requires
-size-in-parts-requires c κs = (few c, lit< tt, omega arith)
+returns-2 c = list-holds u16s _ _ _ _ (list-7 (checked (c .before)) (omega arith))
 
 sub-if3 : tie.Need-sub-if3
-sub-if3 c = within (c .before .before) .1
-
-same-length-3 : tie.Need-same-length-3
-same-length-3 c = search needs
+sub-if3 c = checked (c .before .before) .within .1
 
 returns-3 : tie.Need-returns-3
-returns-3 c =
-    let first = c .before .before .before in
-    let s = start first in
-    holds 7 (s .args .code) (digitsOf 2 (list s)) (room s) (s .args .place) (numbers (list s)) (listed-bytes u16s (list s))
-    (list-8 cut-u16s (s .args .code) (list s) (room s) (s .args .place) (clear first) (even (list s)) (few (c .before .before))
-    (c .before .size-in-parts .ensures) (omega (arith, within first)))
+returns-3 c = let m = measured (c .before) in list-holds u16s _ _ _ _ (list-8 m (omega arith))
 
 add-to : tie.Need-add-to
-add-to c = omega (arith, within (c .before .before .before))
+add-to c = let m = measured (c .before) in omega arith
 
 put-u16-parts-requires : tie.Need-put-u16-parts-requires
-put-u16-parts-requires c κs =
-    let sized = c .before .before in
-    let first = sized .before .before in
-    let s = start first in
-    record {
-      some = lit< tt;
-      fits-part = omega arith;
-      fits =
-          list-fits cut-u16s (s .args .code) (list s) (room s) (s .args .place) (clear first) (even (list s)) (few (sized .before))
-          (sized .size-in-parts .ensures) (omega (arith, within first));
-    }
-
-same-length-4 : tie.Need-same-length-4
-same-length-4 c = search needs
+put-u16-parts-requires c κs = let m = measured (c .before .before) in list-ready m (omega arith)
 
 returns-4 : tie.Need-returns-4
 returns-4 c =
-    let sized = c .before .before .before .before .before in
-    let first = sized .before .before in
-    let s = start first in
-    holds 7 (s .args .code) (digitsOf 2 (list s)) (room s) (s .args .place) (numbers (list s)) (listed-bytes u16s (list s))
-    (list-to cut-u16s (s .args .code) (list s) (room s) (s .args .place) (clear first) (even (list s)) (few (sized .before))
-    (sized .size-in-parts .ensures) (omega (arith, within first)) _ (c .before .before .put-u16-parts .ensures))
+    let m = measured (c .before .before .before .before .before) in
+    list-holds u16s _ _ _ _ (list-to m (omega arith) (c .before .before .put-u16-parts .ensures))
 
 pub write-u16s-spec : {M : Type 1} → statement M
 write-u16s-spec =
     tie.close
     (tie.spec
-    refusal-requires
-    same-length
+    (λ c κs. search needs)
+    (λ c. search needs)
     returns
-    same-length-2
+    (λ c. search needs)
     returns-2
-    mul-size-in-parts
-    mul-size-in-parts-2
-    size-in-parts-requires
+    (λ c. search needs)
+    (λ c. search needs)
+    (λ c κs. search needs)
     sub-if3
-    same-length-3
+    (λ c. search needs)
     returns-3
     add-to
     put-u16-parts-requires
-    same-length-4
+    (λ c. search needs)
     returns-4)

@@ -1,7 +1,10 @@
 -- `write_parts` meets its contract: its parts are measured, and then do not fit or are put.
 -- Assumes nothing.
+use mathlib.Core.Path.{_≡_}
+use Prim.Native.Nat.{_+_, _-_, _*_, _/_}
 use native.Mathlib.Omega.{arith}
 use lib.Dec.{lit<}
+use lib.ListN.{length}
 use Rattle.rfc.specs.Numbers.{mostPart}
 use Rattle.rfc.specs.Writing.{encode}
 use Rattle.rfc.proofs.Writing.{length-encode}
@@ -10,59 +13,33 @@ use borrow.Author.Needs.{needs}
 use Rattle.options.proofs.write_parts.Statement.{statement}
 use Rattle.options.proofs.write_parts.Tie as tie
 
-sub-size : tie.Need-sub-size
-sub-size c = search needs
-
-add-size : tie.Need-add-size
-add-size c = search needs
-
-mul-size : tie.Need-mul-size
-mul-size c = search needs
-
-add-size-2 : tie.Need-add-size-2
-add-size-2 c = search needs
-
-sub-if1 : tie.Need-sub-if1
-sub-if1 c = search needs
+-- how many bytes they are
+size : (c : tie.Start) → let n = length (c .args .value .now) in
+    length (encode mostPart (c .args .code) (c .args .value .now)) ≡ n + 2 * ((n + (mostPart - 1)) / mostPart)
+size c = length-encode mostPart (lit< tt) (c .args .code) (c .args .value .now)
 
 returns : tie.Need-returns
-returns c =
-    let start = c .before .before .before in
-    let a = start .args in
-    let size = length-encode mostPart (lit< tt) (a .code) (a .value .now) in
-    no-room (encode mostPart (a .code) (a .value .now)) (a .room .now) (a .place) (start .pre) (omega arith)
-
-add-to : tie.Need-add-to
-add-to c = search needs
+returns c = let s = c .before .before .before in no-room _ _ _ (s .pre) (omega (arith, size s))
 
 put-parts-requires : tie.Need-put-parts-requires
-put-parts-requires c κs =
-    let a = c .before .before .before .before .args in
-    omega (arith, length-encode mostPart (lit< tt) (a .code) (a .value .now))
-
-same-length : tie.Need-same-length
-same-length c = search needs
+put-parts-requires c κs = omega (arith, size (c .before .before .before .before))
 
 returns-2 : tie.Need-returns-2
 returns-2 c =
-    let put = c .before .before in
-    let start = put .before .before .before .before .before in
-    let a = start .args in
-    let size = length-encode mostPart (lit< tt) (a .code) (a .value .now) in
-    puts (encode mostPart (a .code) (a .value .now)) (a .room .now) (a .place) (start .pre) _ (omega arith) (omega arith)
-    (put .put-parts .ensures)
+    let size = size (c .before .before .before .before .before .before .before) in
+    puts _ _ _ (omega arith) _ (omega arith) (c .before .before .put-parts .ensures)
 
 pub write-parts-spec : {M : Type 1} → statement M
 write-parts-spec =
     tie.close
     (tie.spec
-    sub-size
-    add-size
-    mul-size
-    add-size-2
-    sub-if1
+    (λ c. search needs)
+    (λ c. search needs)
+    (λ c. search needs)
+    (λ c. search needs)
+    (λ c. search needs)
     returns
-    add-to
+    (λ c. search needs)
     put-parts-requires
-    same-length
+    (λ c. search needs)
     returns-2)

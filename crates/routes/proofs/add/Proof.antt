@@ -16,18 +16,6 @@ returns-2 c =
     let a = c .before .before .before .args in
     sym (added-full (a .pass) (a .room .now) (a .byte) (c .before .if1 .left) (c .if2 .taken))
 
-slice-write-room : tie.Need-slice-write-room
-slice-write-room c = search needs
-
-add-pass : tie.Need-add-pass
-add-pass c = search needs
-
-sub-pass : tie.Need-sub-pass
-sub-pass c = search needs
-
-same-length : tie.Need-same-length
-same-length c = search needs
-
 returns-3 : tie.Need-returns-3
 returns-3 c =
     let a = c .before .before .before .before .args in
@@ -35,4 +23,4 @@ returns-3 c =
 
 pub add-spec : {M : Type 1} → statement M
 add-spec =
-    tie.close (tie.spec returns returns-2 slice-write-room add-pass sub-pass same-length returns-3)
+    tie.close (tie.spec returns returns-2 (λ c. search needs) (λ c. search needs) (λ c. search needs) (λ c. search needs) returns-3)

@@ -21,18 +21,6 @@ returns-2 c =
     let a = c .before .before .before .before .args in
     sym (measured-full (a .pass) (rowOf (a .route)) (omega arith) (omega arith))
 
-significant-requires : tie.Need-significant-requires
-significant-requires c κs = search needs
-
-add-pass : tie.Need-add-pass
-add-pass c = omega arith
-
-add-pass-2 : tie.Need-add-pass-2
-add-pass-2 c = omega arith
-
-add-pass-3 : tie.Need-add-pass-3
-add-pass-3 c = omega arith
-
 returns-3 : tie.Need-returns-3
 returns-3 c =
     let tested = c .before .before in
@@ -43,4 +31,5 @@ returns-3 c =
 
 pub measure-spec : {M : Type 1} → statement M
 measure-spec =
-    tie.close (tie.spec returns returns-2 significant-requires add-pass add-pass-2 add-pass-3 returns-3)
+    tie.close
+    (tie.spec returns returns-2 (λ c κs. search needs) (λ c. omega arith) (λ c. omega arith) (λ c. omega arith) returns-3)

@@ -12,12 +12,6 @@ returns c =
     let a = c .before .before .before .args in
     sym (passed-refused (a .pass, a .room .now) (a .route) (c .if1 .taken))
 
-put-route-requires : tie.Need-put-route-requires
-put-route-requires c κs = search needs
-
-same-length : tie.Need-same-length
-same-length c = search needs
-
 returns-2 : tie.Need-returns-2
 returns-2 c =
     let wrote = c .before .before in
@@ -25,9 +19,6 @@ returns-2 c =
     let a = tested .before .before .before .before .args in
     wrote .put-route .ensures
     ∙ sym (passed-writing (a .pass, a .room .now) (a .route) (tested .before .if1 .left) (tested .if2 .taken))
-
-measure-requires : tie.Need-measure-requires
-measure-requires c κs = search needs
 
 returns-3 : tie.Need-returns-3
 returns-3 c =
@@ -38,4 +29,4 @@ returns-3 c =
 
 pub one-spec : {M : Type 1} → statement M
 one-spec =
-    tie.close (tie.spec returns put-route-requires same-length returns-2 measure-requires returns-3)
+    tie.close (tie.spec returns (λ c κs. search needs) (λ c. search needs) returns-2 (λ c κs. search needs) returns-3)

@@ -18,37 +18,13 @@ returns-2 c =
     let a = c .before .before .before .before .args in
     sym (opened-full (a .pass) (a .room .now) (c .before .if1 .left) (omega arith))
 
-sub-if3 : tie.Need-sub-if3
-sub-if3 c = search needs
-
 returns-3 : tie.Need-returns-3
 returns-3 c =
     let a = c .before .before .before .before .before .args in
     sym (opened-full (a .pass) (a .room .now) (c .before .before .if1 .left) (omega arith))
 
-next-part-requires : tie.Need-next-part-requires
-next-part-requires c κs = search needs
-
-slice-write-room : tie.Need-slice-write-room
-slice-write-room c = search needs
-
-cast-room : tie.Need-cast-room
-cast-room c = search needs
-
-add-room : tie.Need-add-room
-add-room c = search needs
-
 slice-write-room-2 : tie.Need-slice-write-room-2
 slice-write-room-2 c = simp length-set (omega arith)
-
-add-pass : tie.Need-add-pass
-add-pass c = search needs
-
-sub-pass : tie.Need-sub-pass
-sub-pass c = search needs
-
-same-length : tie.Need-same-length
-same-length c = search needs
 
 returns-4 : tie.Need-returns-4
 returns-4 c =
@@ -63,14 +39,14 @@ open-part-spec =
     (tie.spec
     returns
     returns-2
-    sub-if3
+    (λ c. search needs)
     returns-3
-    next-part-requires
-    slice-write-room
-    cast-room
-    add-room
+    (λ c κs. search needs)
+    (λ c. search needs)
+    (λ c. search needs)
+    (λ c. search needs)
     slice-write-room-2
-    add-pass
-    sub-pass
-    same-length
+    (λ c. search needs)
+    (λ c. search needs)
+    (λ c. search needs)
     returns-4)

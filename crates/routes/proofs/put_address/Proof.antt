@@ -40,21 +40,6 @@ loop-holds c =
     let k : a .n - 0 ≡ a .n = omega arith in
     (omega arith, omega arith, ap (λ (m : ℕ). foldl put (a .start, a .room .now) (take m (digits 4 (a .address)))) k, refl)
 
-cast-put-next : tie.Need-cast-put-next Inv-loop μ-loop
-cast-put-next c = omega arith
-
-put-next-requires : tie.Need-put-next-requires Inv-loop μ-loop
-put-next-requires c κs = search needs
-
-mul-rest : tie.Need-mul-rest Inv-loop μ-loop
-mul-rest c = omega arith
-
-add-i : tie.Need-add-i Inv-loop μ-loop
-add-i c = omega arith
-
-loop-less : tie.Need-loop-less Inv-loop μ-loop
-loop-less c = omega arith
-
 loop-again : tie.Need-loop-again Inv-loop μ-loop
 loop-again c =
     let turn = c .before .before .put-next in
@@ -86,11 +71,11 @@ put-address-spec =
     Inv-loop
     μ-loop
     loop-holds
-    cast-put-next
-    put-next-requires
-    mul-rest
-    add-i
-    loop-less
+    (λ c. omega arith)
+    (λ c κs. search needs)
+    (λ c. omega arith)
+    (λ c. omega arith)
+    (λ c. omega arith)
     loop-again
     same-length
     returns)

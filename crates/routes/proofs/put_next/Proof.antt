@@ -6,15 +6,6 @@ use Rattle.routes.specs.Passes.{State, added}
 use Rattle.routes.proofs.put_next.Statement.{statement}
 use Rattle.routes.proofs.put_next.Tie as tie
 
-open-part-requires : tie.Need-open-part-requires
-open-part-requires c κs = search needs
-
-add-requires : tie.Need-add-requires
-add-requires c κs = search needs
-
-same-length : tie.Need-same-length
-same-length c = search needs
-
 returns : tie.Need-returns
 returns c =
     let a = c .before .before .before .before .before .before .before .before .before .args in
@@ -22,4 +13,4 @@ returns c =
     ∙ ap (λ (d : State). added d (a .byte)) (c .before .before .before .before .before .before .open-part .ensures)
 
 pub put-next-spec : {M : Type 1} → statement M
-put-next-spec = tie.close (tie.spec open-part-requires add-requires same-length returns)
+put-next-spec = tie.close (tie.spec (λ c κs. search needs) (λ c κs. search needs) (λ c. search needs) returns)

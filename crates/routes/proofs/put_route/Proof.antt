@@ -13,21 +13,6 @@ use Rattle.routes.specs.Passes.{State, put}
 use Rattle.routes.proofs.put_route.Statement.{statement}
 use Rattle.routes.proofs.put_route.Tie as tie
 
-significant-requires : tie.Need-significant-requires
-significant-requires c κs = search needs
-
-put-next-requires : tie.Need-put-next-requires
-put-next-requires c κs = search needs
-
-put-address-requires : tie.Need-put-address-requires
-put-address-requires c κs = omega arith
-
-put-address-requires-2 : tie.Need-put-address-requires-2
-put-address-requires-2 c κs = search needs
-
-same-length : tie.Need-same-length
-same-length c = search needs
-
 returns : tie.Need-returns
 returns c =
     let gateway = c .before .before in
@@ -46,9 +31,9 @@ pub put-route-spec : {M : Type 1} → statement M
 put-route-spec =
     tie.close
     (tie.spec
-    significant-requires
-    put-next-requires
-    put-address-requires
-    put-address-requires-2
-    same-length
+    (λ c κs. search needs)
+    (λ c κs. search needs)
+    (λ c κs. omega arith)
+    (λ c κs. search needs)
+    (λ c. search needs)
     returns)

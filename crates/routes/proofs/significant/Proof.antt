@@ -9,11 +9,8 @@ use Rattle.routes.proofs.significant.Tie as tie
 returns : tie.Need-returns
 returns c = omega (arith, significant-is (c .before .args .width))
 
-add-result : tie.Need-add-result
-add-result c = search needs
-
 returns-2 : tie.Need-returns-2
 returns-2 c = omega (arith, significant-is (c .before .args .width))
 
 pub significant-spec : {M : Type 1} → statement M
-significant-spec = tie.close (tie.spec returns add-result returns-2)
+significant-spec = tie.close (tie.spec returns (λ c. search needs) returns-2)

@@ -23,18 +23,6 @@ returns-3 c =
     let a = fits .before .before .before .args in
     sym (turned-8 (a .pass) (a .n) (fits .before .if1 .left) (omega arith) (omega arith))
 
-sub-if4 : tie.Need-sub-if4
-sub-if4 c = search needs
-
-add-if4 : tie.Need-add-if4
-add-if4 c = search needs
-
-mul-if4 : tie.Need-mul-if4
-mul-if4 c = search needs
-
-add-if4-2 : tie.Need-add-if4-2
-add-if4-2 c = search needs
-
 returns-4 : tie.Need-returns-4
 returns-4 c =
     let fits = c .before .before .before .before in
@@ -50,4 +38,7 @@ returns-5 c =
 pub turn-over-spec : {M : Type 1} → statement M
 turn-over-spec =
     tie.close
-    (tie.spec returns returns-2 returns-3 sub-if4 add-if4 mul-if4 add-if4-2 returns-4 returns-5)
+    (tie.spec
+    returns returns-2 returns-3
+    (λ c. search needs) (λ c. search needs) (λ c. search needs) (λ c. search needs)
+    returns-4 returns-5)

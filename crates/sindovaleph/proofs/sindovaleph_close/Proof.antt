@@ -5,18 +5,6 @@ use borrow.Author.Needs.{needs}
 use Rattle.sindovaleph.proofs.sindovaleph_close.Statement.{statement}
 use Rattle.sindovaleph.proofs.sindovaleph_close.Tie as tie
 
-close-requires : tie.Need-close-requires
-close-requires c κs = search needs
-
-written-of-requires : tie.Need-written-of-requires
-written-of-requires c κs = search needs
-
-same-length : tie.Need-same-length
-same-length c = search needs
-
-returns : tie.Need-returns
-returns c = wrote-crosses (c .before .before .before .close .ensures) (c .written-of .ensures)
-
 pub sindovaleph-close-spec : {M : Type 1} → statement M
 sindovaleph-close-spec =
-    tie.close (tie.spec close-requires written-of-requires same-length returns)
+    tie.close (tie.spec (λ c κs. search needs) (λ c κs. search needs) (λ c. search needs) (λ c. search (needs, wrote-crosses)))

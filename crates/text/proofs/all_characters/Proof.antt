@@ -15,37 +15,16 @@ Inv-loop text from i₀ i = (i ≤ length text) × (utf8 (drop from text) ≡ ut
 abbrev μ-loop : tie.MeasureT-loop
 μ-loop text from i₀ i = length text - i
 
-loop-holds : tie.Need-loop-holds Inv-loop μ-loop
-loop-holds c = (omega arith, refl)
-
-width-at-requires : tie.Need-width-at-requires Inv-loop μ-loop
-width-at-requires c κs = omega arith
-
-returns : tie.Need-returns Inv-loop μ-loop
-returns c = sym (c .before .before .before .loop .inv .1 ∙ c .before .width-at .ensures .wrong (c .if1 .taken))
-
-add-i : tie.Need-add-i Inv-loop μ-loop
-add-i c = omega arith
-
-loop-less : tie.Need-loop-less Inv-loop μ-loop
-loop-less c = omega arith
-
-loop-again : tie.Need-loop-again Inv-loop μ-loop
-loop-again c = (omega arith, c .before .before .before .loop .inv .1 ∙ c .before .width-at .ensures .passed (c .if1 .left))
-
-returns-2 : tie.Need-returns-2 Inv-loop μ-loop
-returns-2 c = sym (c .before .loop .inv .1 ∙ ended _ _ (c .loop-test .left))
-
 pub all-characters-spec : {M : Type 1} → statement M
 all-characters-spec =
     tie.close
     (tie.spec
     Inv-loop
     μ-loop
-    loop-holds
-    width-at-requires
-    returns
-    add-i
-    loop-less
-    loop-again
-    returns-2)
+    (λ c. (omega arith, refl))
+    (λ c κs. omega arith)
+    (λ c. sym (c .before .before .before .loop .inv .1 ∙ c .before .width-at .ensures .wrong (c .if1 .taken)))
+    (λ c. omega arith)
+    (λ c. omega arith)
+    (λ c. (omega arith, c .before .before .before .loop .inv .1 ∙ c .before .width-at .ensures .passed (c .if1 .left)))
+    (λ c. sym (c .before .loop .inv .1 ∙ ended _ _ (c .loop-test .left))))

@@ -15,31 +15,10 @@ Inv-loop text i n high₀ j₀ high j = (j ≤ n) × ((high ≡ false) → Ascii
 abbrev μ-loop : tie.MeasureT-loop
 μ-loop text i n high₀ j₀ high j = n - j
 
-loop-holds : tie.Need-loop-holds Inv-loop μ-loop
-loop-holds c = (omega arith, λ e. no-bytes _ _ (omega arith))
-
-add-or-high : tie.Need-add-or-high Inv-loop μ-loop
-add-or-high c = omega arith
-
-shared-slice-read-or-high : tie.Need-shared-slice-read-or-high Inv-loop μ-loop
-shared-slice-read-or-high c = omega arith
-
-or-high-requires : tie.Need-or-high-requires Inv-loop μ-loop
-or-high-requires c κs = tt
-
-add-j : tie.Need-add-j Inv-loop μ-loop
-add-j c = omega arith
-
-loop-less : tie.Need-loop-less Inv-loop μ-loop
-loop-less c = omega arith
-
 loop-again : tie.Need-loop-again Inv-loop μ-loop
 loop-again c =
     let e = c .or-high .ensures in
     (omega arith, λ h. one-more (c .before .before .before .loop .inv .1 (e h .0)) (e h .1) (omega arith))
-
-returns : tie.Need-returns Inv-loop μ-loop
-returns c e = shorter (c .before .loop .inv .1 e) (omega arith)
 
 pub any-high-spec : {M : Type 1} → statement M
 any-high-spec =
@@ -47,11 +26,11 @@ any-high-spec =
     (tie.spec
     Inv-loop
     μ-loop
-    loop-holds
-    add-or-high
-    shared-slice-read-or-high
-    or-high-requires
-    add-j
-    loop-less
+    (λ c. (omega arith, λ e. no-bytes _ _ (omega arith)))
+    (λ c. omega arith)
+    (λ c. omega arith)
+    (λ c κs. tt)
+    (λ c. omega arith)
+    (λ c. omega arith)
     loop-again
-    returns)
+    (λ c e. shorter (c .before .loop .inv .1 e) (omega arith)))

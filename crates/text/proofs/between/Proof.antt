@@ -4,8 +4,5 @@ use Rattle.facts.proofs.Ranges.{tests}
 use Rattle.text.proofs.between.Statement.{statement}
 use Rattle.text.proofs.between.Tie as tie
 
-returns : tie.Need-returns
-returns c = tests (c .args .low) (c .args .high) (c .args .b)
-
 pub between-spec : {M : Type 1} → statement M
-between-spec = tie.close (tie.spec returns)
+between-spec = tie.close (tie.spec (λ c. tests (c .args .low) (c .args .high) (c .args .b)))

@@ -6,16 +6,10 @@ use Rattle.text.proofs.Ascii.{in-front}
 use Rattle.text.proofs.is_utf8.Statement.{statement}
 use Rattle.text.proofs.is_utf8.Tie as tie
 
-past-ascii-requires : tie.Need-past-ascii-requires
-past-ascii-requires c κs = search needs
-
-all-characters-requires : tie.Need-all-characters-requires
-all-characters-requires c κs = search needs
-
 returns : tie.Need-returns
 returns c =
     let front = c .before .past-ascii .ensures in
     c .all-characters .ensures ∙ sym (in-front _ (front .0) (front .1))
 
 pub is-utf8-spec : {M : Type 1} → statement M
-is-utf8-spec = tie.close (tie.spec past-ascii-requires all-characters-requires returns)
+is-utf8-spec = tie.close (tie.spec (λ c κs. search needs) (λ c κs. search needs) returns)

@@ -5,8 +5,5 @@ use Rattle.text.proofs.Ascii.{neither}
 use Rattle.text.proofs.or_high.Statement.{statement}
 use Rattle.text.proofs.or_high.Tie as tie
 
-returns : tie.Need-returns
-returns c e = let n = neither (c .args .before) _ e in (n .0, ltb-false _ (c .args .b) (n .1))
-
 pub or-high-spec : {M : Type 1} → statement M
-or-high-spec = tie.close (tie.spec returns)
+or-high-spec = tie.close (tie.spec (λ c e. let n = neither (c .args .before) _ e in (n .0, ltb-false _ (c .args .b) (n .1))))

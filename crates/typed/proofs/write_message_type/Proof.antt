@@ -1,7 +1,6 @@
 -- `write_message_type` meets its contract: the byte is the digit of the number.
 -- Assumes nothing.
-use mathlib.Core.Path.{refl, sym}
-use denote.Ref.{now}
+use mathlib.Core.Path.{refl}
 use Rattle.rfc.proofs.Values.{messageType}
 use Rattle.rfc.proofs.Typed.{digits-byte}
 use Rattle.typed.proofs.Answers.{scalar-as, holds-number}
@@ -9,20 +8,11 @@ use borrow.Author.Needs.{needs}
 use Rattle.typed.proofs.write_message_type.Statement.{statement}
 use Rattle.typed.proofs.write_message_type.Tie as tie
 
-slice-aggregate-write-as : tie.Need-slice-aggregate-write-as
-slice-aggregate-write-as c = search needs
-
-write-as-requires : tie.Need-write-as-requires
-write-as-requires c κs = scalar-as messageType refl
-
-same-length : tie.Need-same-length
-same-length c = search needs
-
-returns : tie.Need-returns
-returns c =
-    let a = c .before .before .before .before .before .before .args in
-    holds-number messageType (a .code) _ (now (a .room)) (a .place) (a .byte) (sym (digits-byte (a .byte) (search needs)))
-    (c .before .before .write-as .ensures)
-
 pub write-message-type-spec : {M : Type 1} → statement M
-write-message-type-spec = tie.close (tie.spec slice-aggregate-write-as write-as-requires same-length returns)
+write-message-type-spec =
+    tie.close
+    (tie.spec
+    (λ c. search needs)
+    (λ c κs. scalar-as messageType refl)
+    (λ c. search needs)
+    (λ c. search (needs, holds-number messageType, digits-byte)))

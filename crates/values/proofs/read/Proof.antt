@@ -1,8 +1,13 @@
 -- `read` meets its contract, check by check.
 -- Assumes nothing.
-use mathlib.Core.Path.{sym, _∙_}
+use mathlib.Core.Path.{_≡_, sym, _∙_}
+use mathlib.Core.Bool.{false}
+use Prim.Native.Nat.{_≤_}
 use native.Mathlib.Omega.{arith}
+use lib.ListN.{length}
 use denote.Ref.{now}
+use Rattle.rfc.specs.Numbers.{mostBytes, noCode}
+use Rattle.rfc.specs.Values.{wrongLength, notText}
 use Rattle.rfc.proofs.Numbers.{pad-code, end-code, a-code}
 use Rattle.rfc.proofs.Codes.{kind-below}
 use Rattle.rfc.proofs.Readings.{any-length, read-2, read-6, read-10, read-11, read-14, read-given}
@@ -12,87 +17,66 @@ use borrow.Author.Needs.{needs}
 use Rattle.values.proofs.read.Statement.{statement}
 use Rattle.values.proofs.read.Tie as tie
 
+abbrev start : tie.After-kind-of → tie.Start
+start k = k .before .before .before .before .before
+
+-- behind the checks of the code, the length and the text
+short : (k : tie.After-kind-of) → length (now (start k .args .value)) ≤ mostBytes
+short k = k .before .before .before .if1 .left
+
+some : (k : tie.After-kind-of) → noCode (start k .args .code) ≡ false
+some k = a-code _ (k .before .before .if2 .left) (k .before .if3 .left)
+
+right : (c : tie.Else4) → let k = c .before .before in
+    wrongLength (modeOf (start k .args .strict)) (k .kind-of .result) (now (start k .args .value)) ≡ false
+right c = sym (c .before .wrong-length .ensures) ∙ c .if4 .left
+
+text : (c : tie.Else5) → let k = c .before .before .before .before in
+    notText (k .kind-of .result) (now (start k .args .value)) ≡ false
+text c = sym (c .before .not-text .ensures) ∙ c .if5 .left
+
 returns : tie.Need-returns
-returns c = let a = c .before .before .args in
-    sym (read-2 (modeOf (a .strict)) (a .code) (now (a .value)) (c .if1 .taken))
+returns c = sym (read-2 _ _ _ (c .if1 .taken))
 
 returns-2 : tie.Need-returns-2
-returns-2 c = let a = c .before .before .before .args in
-    let pad = pad-code (a .code) (c .if2 .taken) in
-    sym (read-6 (modeOf (a .strict)) (a .code) (now (a .value)) (c .before .if1 .left) pad)
+returns-2 c = sym (read-6 _ _ _ (c .before .if1 .left) (pad-code _ (c .if2 .taken)))
 
 returns-3 : tie.Need-returns-3
-returns-3 c = let a = c .before .before .before .before .args in
-    let end = end-code (a .code) (c .before .if2 .left) (c .if3 .taken) in
-    sym (read-6 (modeOf (a .strict)) (a .code) (now (a .value)) (c .before .before .if1 .left) end)
-
-kind-of-requires : tie.Need-kind-of-requires
-kind-of-requires c κs = search needs
+returns-3 c = sym (read-6 _ _ _ (c .before .before .if1 .left) (end-code _ (c .before .if2 .left) (c .if3 .taken)))
 
 wrong-length-requires : tie.Need-wrong-length-requires
-wrong-length-requires c κs = omega (arith, c .kind-of .ensures, kind-below (c .before .before .before .before .before .args .code))
+wrong-length-requires c κs = omega (arith, kind-below (start c .args .code))
 
 returns-4 : tie.Need-returns-4
-returns-4 c = let l = c .before in
-    let k = l .before in
-    let a = k .before .before .before .before .before .args in
-    let some = a-code (a .code) (k .before .before .if2 .left) (k .before .if3 .left) in
-    sym
-    (read-10 (modeOf (a .strict)) (a .code) (now (a .value)) (k .before .before .before .if1 .left) some (k .kind-of .ensures)
-    (sym (l .wrong-length .ensures) ∙ c .if4 .taken))
-
-not-text-requires : tie.Need-not-text-requires
-not-text-requires c κs = search needs
+returns-4 c = let k = c .before .before in
+    sym (read-10 _ _ _ (short k) (some k) (k .kind-of .ensures) (sym (c .before .wrong-length .ensures) ∙ c .if4 .taken))
 
 returns-5 : tie.Need-returns-5
-returns-5 c = let t = c .before in
-    let l = t .before .before in
-    let k = l .before in
-    let a = k .before .before .before .before .before .args in
-    let some = a-code (a .code) (k .before .before .if2 .left) (k .before .if3 .left) in
-    sym
-    (read-11 (modeOf (a .strict)) (a .code) (now (a .value)) (k .before .before .before .if1 .left) some (k .kind-of .ensures)
-    (sym (l .wrong-length .ensures) ∙ t .before .if4 .left)
-    (sym (t .not-text .ensures) ∙ c .if5 .taken))
-
-unclear-requires : tie.Need-unclear-requires
-unclear-requires c κs = search needs
+returns-5 c = let r = c .before .before in
+    let k = r .before .before in
+    sym (read-11 _ _ _ (short k) (some k) (k .kind-of .ensures) (right r) (sym (c .before .not-text .ensures) ∙ c .if5 .taken))
 
 returns-6 : tie.Need-returns-6
-returns-6 c = let u = c .before in
-    let t = u .before .before in
-    let l = t .before .before in
-    let k = l .before in
-    let a = k .before .before .before .before .before .args in
-    let some = a-code (a .code) (k .before .before .if2 .left) (k .before .if3 .left) in
-    sym
-    (read-14 (modeOf (a .strict)) (a .code) (now (a .value)) (k .before .before .before .if1 .left) some (k .kind-of .ensures)
-    (sym (l .wrong-length .ensures) ∙ t .before .if4 .left)
-    (sym (t .not-text .ensures) ∙ u .before .if5 .left)
-    (sym (u .unclear .ensures) ∙ c .if6 .taken))
+returns-6 c = let t = c .before .before in
+    let r = t .before .before in
+    let k = r .before .before in
+    sym (read-14 _ _ _ (short k) (some k) (k .kind-of .ensures) (right r) (text t) (sym (c .before .unclear .ensures) ∙ c .if6 .taken))
 
 value-of-requires : tie.Need-value-of-requires
-value-of-requires c κs = let t = c .before .before .before in
-    let l = t .before .before in
-    let k = l .before in
-    let a = k .before .before .before .before .before .args in
+value-of-requires c κs = let r = c .before .before .before .before in
+    let k = r .before .before in
     record {
-      is-kind = omega (arith, k .kind-of .ensures, kind-below (a .code));
-      length-right = any-length (modeOf (a .strict)) _ (now (a .value)) (sym (l .wrong-length .ensures) ∙ t .before .if4 .left);
+      is-kind = omega (arith, kind-below (start k .args .code));
+      length-right = any-length (modeOf (start k .args .strict)) _ _ (right r);
     }
 
 returns-7 : tie.Need-returns-7
-returns-7 c = let u = c .before .before in
-    let t = u .before .before in
-    let l = t .before .before in
-    let k = l .before in
-    let a = k .before .before .before .before .before .args in
-    let some = a-code (a .code) (k .before .before .if2 .left) (k .before .if3 .left) in
+returns-7 c = let t = c .before .before .before in
+    let r = t .before .before in
+    let k = r .before .before in
     same-answer
-    (read-given (modeOf (a .strict)) (a .code) (now (a .value)) (k .before .before .before .if1 .left) some (k .kind-of .ensures)
-    (sym (l .wrong-length .ensures) ∙ t .before .if4 .left)
-    (sym (t .not-text .ensures) ∙ u .before .if5 .left)
-    (sym (u .unclear .ensures) ∙ c .before .if6 .left))
+    (read-given _ _ _ (short k) (some k) (k .kind-of .ensures) (right r) (text t)
+    (sym (c .before .before .unclear .ensures) ∙ c .before .if6 .left))
     (c .value-of .ensures)
 
 pub read-spec : {M : Type 1} → statement M
@@ -102,12 +86,12 @@ read-spec =
     returns
     returns-2
     returns-3
-    kind-of-requires
+    (λ c κs. search needs)
     wrong-length-requires
     returns-4
-    not-text-requires
+    (λ c κs. search needs)
     returns-5
-    unclear-requires
+    (λ c κs. search needs)
     returns-6
     value-of-requires
     returns-7)

@@ -12,13 +12,10 @@ use Rattle.header.proofs.Header.area.Tie as tie
 
 -- behind the checks the header is whole
 there : (c : tie.Else1) → Whole (c .before .before .before .args .message .now)
-there c = whole _ _ (c .before .refusal-of .ensures) (c .if1 .left)
-
-refusal-of-requires : tie.Need-refusal-of-requires
-refusal-of-requires c κs = search needs
+there c = whole _ (c .before .refusal-of .ensures) (c .if1 .left)
 
 returns : tie.Need-returns
-returns c = sym (area-refused _ (refused-by _ _ (c .before .refusal-of .ensures) (c .if1 .taken)))
+returns c = sym (area-refused _ (refused-by _ (c .before .refusal-of .ensures) (c .if1 .taken)))
 
 wrong-magic-requires : tie.Need-wrong-magic-requires
 wrong-magic-requires c κs = there c
@@ -35,4 +32,4 @@ returns-3 c =
     sym (area-given _ (clear _ (there (c .before .before))) (not-false _ (sym (c .before .wrong-magic .ensures) ∙ c .if2 .left)))
 
 pub area-spec : {M : Type 1} → statement M
-area-spec = tie.close (tie.spec refusal-of-requires returns wrong-magic-requires returns-2 sub-t6 returns-3)
+area-spec = tie.close (tie.spec (λ c κs. search needs) returns wrong-magic-requires returns-2 sub-t6 returns-3)

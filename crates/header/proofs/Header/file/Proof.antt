@@ -6,11 +6,8 @@ use borrow.Author.Needs.{needs}
 use Rattle.header.proofs.Header.file.Statement.{statement}
 use Rattle.header.proofs.Header.file.Tie as tie
 
-text-field-requires : tie.Need-text-field-requires
-text-field-requires c κs = search needs
-
 returns : tie.Need-returns
 returns c = c .text-field .ensures ∙ sym (file-text (c .before .before .args .message .now))
 
 pub file-spec : {M : Type 1} → statement M
-file-spec = tie.close (tie.spec text-field-requires returns)
+file-spec = tie.close (tie.spec (λ c κs. search needs) returns)

@@ -6,11 +6,8 @@ use borrow.Author.Needs.{needs}
 use Rattle.header.proofs.Header.sname.Statement.{statement}
 use Rattle.header.proofs.Header.sname.Tie as tie
 
-text-field-requires : tie.Need-text-field-requires
-text-field-requires c κs = search needs
-
 returns : tie.Need-returns
 returns c = c .text-field .ensures ∙ sym (sname-text (c .before .before .args .message .now))
 
 pub sname-spec : {M : Type 1} → statement M
-sname-spec = tie.close (tie.spec text-field-requires returns)
+sname-spec = tie.close (tie.spec (λ c κs. search needs) returns)

@@ -5,18 +5,6 @@ use borrow.Author.Needs.{needs}
 use Rattle.sindovaleph_typed.proofs.writing.sindovaleph_write_yes_no.Statement.{statement}
 use Rattle.sindovaleph_typed.proofs.writing.sindovaleph_write_yes_no.Tie as tie
 
-write-yes-no-requires : tie.Need-write-yes-no-requires
-write-yes-no-requires c κs = search needs
-
-written-of-requires : tie.Need-written-of-requires
-written-of-requires c κs = search needs
-
-same-length : tie.Need-same-length
-same-length c = search needs
-
-returns : tie.Need-returns
-returns c = wrote-crosses (c .before .before .before .write-yes-no .ensures) (c .written-of .ensures)
-
 pub sindovaleph-write-yes-no-spec : {M : Type 1} → statement M
 sindovaleph-write-yes-no-spec =
-    tie.close (tie.spec write-yes-no-requires written-of-requires same-length returns)
+    tie.close (tie.spec (λ c κs. search needs) (λ c κs. search needs) (λ c. search needs) (λ c. search (needs, wrote-crosses)))
