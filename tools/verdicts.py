@@ -45,7 +45,7 @@ FACTS = (
     re.compile(r"the two indices are `"),
     # What is known does not make the two sides equal.
     re.compile(r"`cc`: the equations do not join|`cc` met a bound of its own before the equations had joined"),
-    re.compile(r"`rw` has no last argument, so what it leaves must be a path whose two ends are equal"),
+    re.compile(r"`(?:rw|simp)` has no last argument, so what it leaves must be a path whose two ends are equal"),
     # Two sides that were compared once all was known.
     re.compile(r"does not hold \(this comparison"),
     # An answer to a need, or the made proof of a function without a proof file.
