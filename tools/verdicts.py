@@ -31,7 +31,7 @@ MISFITS = (
     # The answers to the needs are given in another order, or one is missing or too many.
     re.compile(r"expected type `tie\.Need"),
     # What is known is of another form, so that there is nothing to rewrite.
-    re.compile(r"`rw`: no occurrence of the path's left endpoint in the goal"),
+    re.compile(r"`rw`: no (?:occurrence of the path's (?:left|right) endpoint in the goal|part of the hypothesis's type)"),
 )
 
 # A statement about the changed code does not hold, or nothing proves it.
@@ -42,7 +42,9 @@ FACTS = (
     # The same, told at once: the two types are written out.
     re.compile(r"error: `[^`]*`: expected type `(?!tie\.)"),
     # The same, of a number that a constructor fixes.
-    re.compile(r"the two indices are `"),
+    re.compile(r"the two indices (?:are `|first differ|differ)|this `[^`]*` lands at index `"),
+    # An equation is known where its denial is needed.
+    re.compile(r"a dimension \(`0`, `1` or an interval variable\) is expected here"),
     # What is known does not make the two sides equal.
     re.compile(r"`cc`: the equations do not join|`cc` met a bound of its own before the equations had joined"),
     re.compile(r"`(?:rw|simp)` has no last argument, so what it leaves must be a path whose two ends are equal"),
