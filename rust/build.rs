@@ -1,8 +1,15 @@
-//! Links the four static libraries of the boundary, and says what to do where they are not there.
+//! Links the six static libraries of the boundary, and says what to do where they are not there.
 use std::env;
 use std::path::PathBuf;
 
-const NAMES: [&str; 4] = ["sindovaleph", "sindovaleph_typed", "sindovaleph_rows", "sindovaleph_lines"];
+const NAMES: [&str; 6] = [
+    "sindovaleph",
+    "sindovaleph_typed",
+    "sindovaleph_elements",
+    "sindovaleph_rows",
+    "sindovaleph_typed_rows",
+    "sindovaleph_lines",
+];
 
 /// The folder of the static libraries: the one that SINDOVALEPH_LIBRARY names, or else the repository's.
 fn folder() -> PathBuf {

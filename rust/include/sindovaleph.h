@@ -1,8 +1,8 @@
 /*
  * DHCP messages, read and written: the library's boundary for C and C++, on x86-64 Linux.
  *
- * Link libsindovaleph.a, libsindovaleph_typed.a, libsindovaleph_rows.a and libsindovaleph_lines.a, or those that are
- * called; ./archives in the repository's root builds them in target/staticlib.
+ * Link libsindovaleph.a and, where their functions are called, libsindovaleph_typed.a, _elements.a, _rows.a,
+ * _typed_rows.a and _lines.a beside it; ./archives in the repository's root builds them in target/staticlib.
  *
  * Every function takes whatever bytes, lengths and places it is lent and ends with an answer or the number of a
  * refusal. It needs valid memory and no more: each pointer, which is never NULL, has as many elements as the length
@@ -208,21 +208,20 @@ SindovalephWritten sindovaleph_close(uint8_t *room, size_t room_len, size_t plac
 /* Lists the options from a place on, a SindovalephRow for each, until the first stop or until the rows are full. */
 SindovalephListed sindovaleph_list(const uint8_t *area, size_t area_len, size_t place, size_t *rows, size_t numbers);
 
-/* The same with what each option reads as, plainly or strictly: a SindovalephReadRow for each. */
-SindovalephListed sindovaleph_read_list(const uint8_t *area, size_t area_len, size_t place, size_t *rows,
-                                        size_t numbers, bool strict);
-
 /* Writes an option for each SindovalephWriteRow, as byte values. */
 SindovalephWrittenRows sindovaleph_write_list(uint8_t *room, size_t room_len, size_t place, const size_t *rows,
                                               size_t numbers, const uint8_t *values, size_t values_len);
+
+/* libsindovaleph_typed_rows.a: the same with what each option reads as. */
+
+/* Lists them plainly or strictly, a SindovalephReadRow for each. */
+SindovalephListed sindovaleph_read_list(const uint8_t *area, size_t area_len, size_t place, size_t *rows,
+                                        size_t numbers, bool strict);
 
 /* libsindovaleph_typed.a: typed values. */
 
 /* What the value of an option with this code reads as, plainly or strictly. */
 SindovalephValue sindovaleph_read(uint8_t code, const uint8_t *value, size_t value_len, bool strict);
-
-/* The element at an index of a list. */
-SindovalephElement sindovaleph_element(uint8_t code, const uint8_t *value, size_t value_len, size_t index);
 
 /* Each of these writes a value of one kind, and takes a code of that kind. */
 SindovalephWritten sindovaleph_write_address(uint8_t *room, size_t room_len, size_t place, uint8_t code,
@@ -253,6 +252,11 @@ SindovalephWritten sindovaleph_write_codes(uint8_t *room, size_t room_len, size_
 /* Writes the table of classless routes, option 121. */
 SindovalephWritten sindovaleph_write_routes(uint8_t *room, size_t room_len, size_t place,
                                             const SindovalephRoute *routes, size_t count);
+
+/* libsindovaleph_elements.a: lists, element by element. */
+
+/* The element at an index of a list. */
+SindovalephElement sindovaleph_element(uint8_t code, const uint8_t *value, size_t value_len, size_t index);
 
 /* libsindovaleph_lines.a: the listing of a message as text. */
 

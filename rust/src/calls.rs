@@ -1,7 +1,6 @@
-//! The library's boundary as it is: the declarations of the crates `sindovaleph`, `sindovaleph_typed`,
-//! `sindovaleph_rows` and `sindovaleph_lines` of Rattle, and a safe call for each. This is the only module with
-//! `unsafe`: a call needs nothing but valid slices, which references are. The rest of this crate gives these numbers
-//! their types; who wants the plain numbers calls here.
+//! The library's boundary as it is: the declarations of the crates of Rattle whose names begin with `sindovaleph`, and a
+//! safe call for each. This is the only module with `unsafe`: a call needs nothing but valid slices, which references
+//! are. The rest of this crate gives these numbers their types; who wants the plain numbers calls here.
 //!
 //! In every answer `refused` is the number of a refusal ([`Refusal`](crate::Refusal)), 0 for none. Where one is given,
 //! all else is 0, and a place is the one that was given.
@@ -411,15 +410,35 @@ pub fn read(code: u8, value: &[u8], strict: bool) -> Value {
     unsafe { sindovaleph_read(code, value.as_ptr(), value.len(), strict) }
 }
 
-/// The same with the value as text, where it reads as text.
+/// What a value reads as, beside the value: where it reads as text, it can be had as text without a second look.
+#[derive(Clone, Copy, Debug)]
+pub struct Reading<'a> {
+    answer: Value,
+    value: &'a [u8],
+}
+
+/// What the value of an option reads as, beside the value.
 #[inline]
-pub fn read_with_text(code: u8, value: &[u8], strict: bool) -> (Value, Option<&str>) {
-    let answer = read(code, value, strict);
-    if answer.refused != 0 || answer.kind != crate::Kind::Text.number() {
-        return (answer, None);
+pub fn reading(code: u8, value: &[u8], strict: bool) -> Reading<'_> {
+    Reading { answer: read(code, value, strict), value }
+}
+
+impl<'a> Reading<'a> {
+    /// What the value reads as.
+    #[inline]
+    pub fn answer(&self) -> Value {
+        self.answer
     }
-    // SAFETY: the proved side has just read these bytes as text, which it does only where they are UTF-8.
-    (answer, Some(unsafe { core::str::from_utf8_unchecked(value) }))
+
+    /// The value as text, where it reads as text.
+    #[inline]
+    pub fn text(&self) -> Option<&'a str> {
+        if self.answer.refused != 0 || self.answer.kind != crate::Kind::Text.number() {
+            return None;
+        }
+        // SAFETY: the proved side has read these bytes as text, which it does only where they are UTF-8.
+        Some(unsafe { core::str::from_utf8_unchecked(self.value) })
+    }
 }
 
 /// The element at an index of a list.

@@ -154,8 +154,7 @@ impl ReadRow {
         };
         checked(answer.refused)?;
         let value = self.data(area).ok_or(Refusal::PastEnd)?;
-        let text = if answer.kind == value::Kind::Text.number() { calls::text(value) } else { None };
-        value::shown(self.code(), value, answer, text)
+        value::shown(self.code(), value, answer, || calls::text(value))
     }
 
     /// What is in a listing without values.

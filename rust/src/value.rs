@@ -146,8 +146,8 @@ pub fn read_strict(code: u8, value: &[u8]) -> Result<Value<'_>, Refusal> {
 /// Reads a value, plainly or strictly.
 #[inline]
 fn read_as(code: u8, value: &[u8], strict: bool) -> Result<Value<'_>, Refusal> {
-    let (answer, text) = calls::read_with_text(code, value, strict);
-    shown(code, value, answer, text)
+    let reading = calls::reading(code, value, strict);
+    shown(code, value, reading.answer(), || reading.text())
 }
 
 /// The element at an index of a value that is a list. What is no list has no element.
@@ -156,30 +156,32 @@ pub fn element(code: u8, value: &[u8], index: usize) -> Result<Element, Refusal>
     element_of(kind_of(code), code, value, index)
 }
 
-/// What was answered about a value, with the value's bytes. `text` is the value as text, where it is text.
+/// What was answered about a value, with the value's bytes. `text` gives the value as text, where it is text; it is
+/// asked for no other kind.
 #[inline]
 pub(crate) fn shown<'a>(
     code: u8,
     value: &'a [u8],
     answer: calls::Value,
-    text: Option<&'a str>,
+    text: impl FnOnce() -> Option<&'a str>,
 ) -> Result<Value<'a>, Refusal> {
     checked(answer.refused)?;
     let number = answer.number;
     let kind = Kind::from_number(answer.kind).unwrap_or(Kind::Raw);
-    let list = List { value, count: answer.count, kind, code };
+    // Each list names its own kind, so that none is made before the arms.
+    let list = |kind: Kind| List { value, count: answer.count, kind, code };
     Ok(match kind {
         Kind::Raw => Value::Raw(value),
         Kind::Address => Value::Address(Ipv4Addr::from_bits(number)),
-        Kind::Addresses => Value::Addresses(list),
-        Kind::Pairs => Value::Pairs(list),
+        Kind::Addresses => Value::Addresses(list(Kind::Addresses)),
+        Kind::Pairs => Value::Pairs(list(Kind::Pairs)),
         Kind::Byte => Value::Byte(number as u8),
         Kind::YesNo => Value::YesNo(number != 0),
         Kind::U16 => Value::U16(number as u16),
-        Kind::U16s => Value::U16s(list),
+        Kind::U16s => Value::U16s(list(Kind::U16s)),
         Kind::U32 => Value::U32(number),
         Kind::I32 => Value::I32(number.cast_signed()),
-        Kind::Text => Value::Text(text.ok_or(Refusal::NotUtf8)?),
+        Kind::Text => Value::Text(text().ok_or(Refusal::NotUtf8)?),
         Kind::Codes => Value::Codes(value),
         Kind::NodeType => Value::NodeType(NodeType::from(number as u8)),
         Kind::MessageType => Value::MessageType(number as u8),

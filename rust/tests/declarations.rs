@@ -363,8 +363,9 @@ fn values_cross() {
     assert_eq!(element(33, &pairs, 2), Element { refused: 4, first: 0, second: 0 });
     assert_eq!((kind_of(33), kind_of(55), kind_of(255)), (3, 11, 0));
     assert_eq!((is_utf8("ä".as_bytes()), is_utf8(&[0xC3]), text(&[0xC3])), (true, false, None));
-    assert_eq!(read_with_text(12, b"ab", true), (calls::read(12, b"ab", true), Some("ab")));
-    assert_eq!(read_with_text(12, &[0xC3], true).1, None);
+    let text: calls::Reading<'_> = reading(12, b"ab", true);
+    assert_eq!((text.answer(), text.text()), (calls::read(12, b"ab", true), Some("ab")));
+    assert_eq!(reading(12, &[0xC3], true).text(), None);
 }
 
 #[test]

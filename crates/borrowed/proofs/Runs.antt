@@ -66,3 +66,11 @@ scan-turn area i code parts len e h =
     let n : ℕ = getD area (i + 1) 0 in
     ap (λ (q : rfc.Run). grow parts len (sizeOf q)) (further-more-at area i code e h)
     ∙ grow-more parts len n (take n (drop (i + 2) area)) _ (length-take-le n (drop (i + 2) area) (omega (arith, length-drop (i + 2) area)))
+
+-- a turn over an empty part
+pub scan-empty : (area : List ℕ) (i code parts len : ℕ) → getD area i 0 ≡ code → getD area (i + 1) 0 ≡ 0 → i + 2 ≤ length area
+    → grow parts len (sizeOf (further code (drop i area))) ≡ grow (parts + 1) len (sizeOf (further code (drop (i + 2) area)))
+scan-empty area i code parts len e z h =
+    let a : len + getD area (i + 1) 0 ≡ len = omega (arith, z) in
+    let b : i + 2 + getD area (i + 1) 0 ≡ i + 2 = omega (arith, z) in
+    scan-turn area i code parts len e (omega (arith, z)) ∙ (λ j. grow (parts + 1) (a j) (sizeOf (further code (drop (b j) area))))

@@ -18,6 +18,8 @@ use Rattle.borrowed.proofs.look.Kinds as look-kinds
 use Rattle.borrowed.proofs.look.Reads as look
 use Rattle.borrowed.proofs.step.Kinds as step-kinds
 use Rattle.borrowed.proofs.step.Reads as step
+use Rattle.borrowed.proofs.first.Kinds as first-kinds
+use Rattle.borrowed.proofs.first.Reads as first
 use Rattle.borrowed.proofs.part.Kinds as part-kinds
 use Rattle.borrowed.proofs.part.Reads as part
 use Rattle.borrowed.proofs.value.Kinds as value-kinds
@@ -52,6 +54,9 @@ look-unique κs a x y s t p q = p ∙ sym q
 
 step-unique : UniqueLeft 2 step-kinds.ps step-kinds.r step.Post (λ κs s. now (s .1 .1 .0))
 step-unique κs a x y s t p q = walked-one p q
+
+first-unique : Unique 1 first-kinds.ps first-kinds.r first.Post
+first-unique κs a x y s t p q = p ∙ sym q
 
 part-unique : UniqueShown 1 part-kinds.ps part-kinds.r part.Post (λ κs x. now x)
 part-unique κs a x y s t p q = p ∙ sym q

@@ -6,13 +6,15 @@ use mathlib.Core.List.{List, []}
 use mathlib.Core.Bool.{cond}
 use lib.ListN.{length, take, drop, getD}
 use lib.Dec.{leb}
-use Rattle.rfc.specs.Numbers.{Answer, given, refused, needs}
+use Rattle.rfc.specs.Numbers.{Answer, given, refused, needs, padCode, endCode, mostBytes}
 use Rattle.rfc.specs.Walk as rfc
 use Rattle.rfc.specs.Walk.{stop, option, run, cut, further, walk, joinAfter}
 use Rattle.borrowed.specs.declared.answer.Stop.{Stop}
 use Rattle.borrowed.specs.declared.answer.Stop.the-variants.{Out, End, CutLength, CutValue, CutContinuation}
 use Rattle.borrowed.specs.declared.answer.Step.{Step}
 use Rattle.borrowed.specs.declared.answer.Step.the-variants.{Stopped, Found, Refused, Needs}
+use Rattle.borrowed.specs.declared.Begun.{Begun}
+use Rattle.borrowed.specs.declared.Begun.the-variants as begun
 use Rattle.borrowed.specs.declared.parts.Run.{Run}
 use Rattle.borrowed.specs.declared.parts.Run.the-variants.{Cut, Whole}
 
@@ -82,12 +84,38 @@ placeOf (Needs len) place = place
 pub record Skipped (area : List ℕ) (place r : ℕ) : Type 0 where
   pub within : r ≤ length area
   pub same : walk place (drop place area) ≡ walk r (drop r area)
-  pub other : r < length area → getD area r 0 ≡ 0 → ⊥
+  pub other : r < length area → getD area r 0 ≡ padCode → ⊥
 
--- a place of the area, at no Pad
+-- the place behind the part at a place
+abbrev pub behind : List ℕ → ℕ → ℕ
+behind area at = at + 2 + getD area (at + 1) 0
+
+-- a place of an area that is not too long, at no Pad
 pub record Ready (area : List ℕ) (at : ℕ) : Type 0 where
+  pub small : length area ≤ mostBytes
   pub within : at ≤ length area
-  pub other : at < length area → getD area at 0 ≡ 0 → ⊥
+  pub other : at < length area → getD area at 0 ≡ padCode → ⊥
+
+-- such a place with neither Pad nor End, at which a whole part begins
+pub record Starts (area : List ℕ) (at : ℕ) : Type 0 where
+  pub small : length area ≤ mostBytes
+  pub inside : at < length area
+  pub other : getD area at 0 ≡ padCode → ⊥
+  pub goes-on : getD area at 0 ≡ endCode → ⊥
+  pub within : behind area at ≤ length area
+
+-- and behind it another of the same code
+pub record Continues (area : List ℕ) (at : ℕ) : Type 0 where
+  pub starts : Starts area at
+  pub inside : behind area at < length area
+  pub same : getD area (behind area at) 0 ≡ getD area at 0
+
+-- how a call begins that finds this: with what it finds, or at an option of several parts, where a call would find the same
+abbrev pub Begins : Begun → List ℕ → Answer rfc.Found → Type 0
+Begins (begun.Refused number) area found = Refused number ≡ sizes found
+Begins (begun.Stopped s at) area found = Stopped s at ≡ sizes found
+Begins (begun.Alone code len at) area found = Found code 1 len at ≡ sizes found
+Begins (begun.Several at) area found = Continues area at × (found ≡ rfc.look area at)
 
 -- a run by its numbers
 abbrev pub sizeOf : rfc.Run → Run
@@ -99,17 +127,13 @@ abbrev pub values : rfc.Run → List ℕ
 values cut = []
 values (run n vs) = vs
 
--- the joined values of the `parts` parts of `code`, `len` bytes of them, that end at `place`
-abbrev pub valueBefore : List ℕ → ℕ → ℕ → ℕ → ℕ → List ℕ
-valueBefore area code parts len place = values (further code (drop (place - 2 * parts - len) area))
+-- the joined values of the parts that begin at a place
+abbrev pub valuesAt : List ℕ → ℕ → List ℕ
+valuesAt area at = values (further (getD area at 0) (drop at area))
 
--- a call found an option of `parts` parts and `len` bytes that ends at `place`
-pub record Parted (area : List ℕ) (code parts len place : ℕ) : Type 0 where
-  pub from : ℕ
-  pub found : rfc.look area from ≡ given (option code (valueBefore area code parts len place) parts place)
-  pub long : length (valueBefore area code parts len place) ≡ len
-
--- at `at` stand exactly `parts` parts of `code`, whose values fit in `room` bytes
-pub record AtPart (area : List ℕ) (at code parts room : ℕ) : Type 0 where
-  pub whole : further code (drop at area) ≡ run parts (values (further code (drop at area)))
-  pub fits : length (values (further code (drop at area))) ≤ room
+-- from `at` to `end` stand whole parts of one code, whose values fit in `room` bytes
+pub record PartsTo (area : List ℕ) (at end room : ℕ) : Type 0 where
+  pub parts : ℕ
+  pub whole : further (getD area at 0) (drop at area) ≡ run parts (valuesAt area at)
+  pub ends : end ≡ at + (2 * parts + length (valuesAt area at))
+  pub fits : length (valuesAt area at) ≤ room

@@ -25,3 +25,15 @@ pub enum Step {
     // Refusal 5, with the length that is needed.
     Needs(usize),
 }
+
+// What a first look at a place tells of a step there.
+pub enum First {
+    // An option of one part, and the place behind it.
+    Alone { code: u8, len: usize, place: usize },
+    // End, and the place behind it.
+    Ends(usize),
+    // A whole part, with another of the same code behind it, whole or cut.
+    Several,
+    // Nothing: what stands there takes more than one look.
+    Other,
+}

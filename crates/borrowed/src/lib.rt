@@ -4,45 +4,117 @@ mod parts;
 
 ghost use Prim.Native.Nat.{_≤_};
 ghost use mathlib.Core.Path.{_≡_};
-ghost use lib.ListN.{length, drop};
-ghost use Rattle.rfc.specs.Numbers.{given};
+ghost use lib.ListN.{length};
 ghost use Rattle.rfc.specs.Walk as rfc;
-ghost use Rattle.borrowed.specs.Walked.{sizes, Stepped, Skipped, Ready, partOf, shown, placeOf};
+ghost use Rattle.borrowed.specs.FirstLook.{firstOf};
+ghost use Rattle.borrowed.specs.Walked.{sizes, Stepped, Begins, Skipped, Ready, partOf, shown, placeOf};
 ghost use Rattle.borrowed.specs.declared.answer.Step.the-variants.{Found};
+use answer::First;
 use answer::Step;
 use answer::Stop;
 use limits::MOST_BYTES;
-use parts::Run;
+
+// How a call begins.
+enum Begun {
+    // A refusal by its number.
+    Refused(u8),
+    // A stop, and the place behind it.
+    Stopped(Stop, usize),
+    // An option of one part, and the place behind it.
+    Alone { code: u8, len: usize, place: usize },
+    // A part of an option that goes on, at this place.
+    Several(usize),
+}
 
 // What a call at `place` finds; nothing is joined.
 pub fn look(area: &[u8], place: usize) -> Step
     ensures { λ r. ⌜ r ≡ sizes (rfc.look (now (area .entry)) place) ⌝ }
 {
-    if area.len() > MOST_BYTES {
-        return Step::Refused(2);
+    match begin(area, place) {
+        Begun::Refused(number) => Step::Refused(number),
+        Begun::Stopped(stop, to) => Step::Stopped(stop, to),
+        Begun::Alone {
+            code,
+            len,
+            place: to,
+        } => alone(code, len, to),
+        Begun::Several(at) => parts::count(area, at),
     }
-    if place > area.len() {
-        return Step::Refused(4);
-    }
-    let at = skip_pads(area, place);
-    read(area, at)
 }
 
 // One call at `place`. An option of two parts or more is joined in `join`.
 pub fn step(area: &[u8], place: usize, join: &mut [u8]) -> Step
     ensures { λ r. ⌜ Stepped (now (area .entry)) place (now (join .entry)) (now (join .exit)) r ⌝ }
 {
-    match look(area, place) {
-        Step::Found {
+    match begin(area, place) {
+        Begun::Refused(number) => Step::Refused(number),
+        Begun::Stopped(stop, to) => Step::Stopped(stop, to),
+        Begun::Alone {
             code,
-            parts,
             len,
             place: to,
-        } => parts::finish(area, code, parts, len, to, join),
-        Step::Stopped(stop, at) => Step::Stopped(stop, at),
-        Step::Refused(number) => Step::Refused(number),
-        Step::Needs(len) => Step::Needs(len),
+        } => alone(code, len, to),
+        Begun::Several(at) => parts::several(area, at, join),
     }
+}
+
+// A first look at `place`, for callers that are in a hurry: most options have one part and no Pad before them. One test tells that a code
+// and a length stand there, and one that the value does.
+pub fn first(area: &[u8], place: usize) -> First
+    ensures { λ r. ⌜ r ≡ firstOf (now (area .entry)) place ⌝ }
+{
+    let size = area.len();
+    if size > MOST_BYTES {
+        return First::Other;
+    }
+    if size < 2 {
+        return First::Other;
+    }
+    let last = size - 2;
+    if place > last {
+        return First::Other;
+    }
+    let code = area[place];
+    if code == 0 {
+        return First::Other;
+    }
+    if code == 255 {
+        return First::Ends(place + 1);
+    }
+    let len = area[place + 1] as usize;
+    if len > last - place {
+        return First::Other;
+    }
+    let to = place + 2 + len;
+    if to >= size {
+        return First::Alone {
+            code,
+            len,
+            place: to,
+        };
+    }
+    if area[to] != code {
+        return First::Alone {
+            code,
+            len,
+            place: to,
+        };
+    }
+    First::Several
+}
+
+// How a call at `place` begins: two checks, then what stands behind the Pads.
+fn begin(area: &[u8], place: usize) -> Begun
+    ensures { λ r. ⌜ Begins r (now (area .entry)) (rfc.look (now (area .entry)) place) ⌝ }
+{
+    if area.len() > MOST_BYTES {
+        return Begun::Refused(2);
+    }
+    if place > area.len() {
+        return Begun::Refused(4);
+    }
+    let at = skip_pads(area, place);
+    read(area, at)
 }
 
 // The first place from `place` on that holds no Pad, or the area's end.
@@ -60,41 +132,41 @@ fn skip_pads(area: &[u8], place: usize) -> usize
     i
 }
 
-// What a call finds at a place that holds no Pad.
-fn read(area: &[u8], at: usize) -> Step
+// How a call begins at a place that holds no Pad.
+fn read(area: &[u8], at: usize) -> Begun
     requires { ⌜ Ready (now area) at ⌝ }
-    ensures { λ r. ⌜ r ≡ sizes (given (rfc.walk at (drop at (now (area .entry))))) ⌝ }
+    ensures { λ r. ⌜ Begins r (now (area .entry)) (rfc.look (now (area .entry)) at) ⌝ }
 {
     if at >= area.len() {
-        return Step::Stopped(Stop::Out, at);
+        return Begun::Stopped(Stop::Out, at);
     }
     let code = area[at];
     if code == 255 {
-        return Step::Stopped(Stop::End, at + 1);
+        return Begun::Stopped(Stop::End, at + 1);
     }
     if area.len() - at < 2 {
-        return Step::Stopped(Stop::CutLength, at + 1);
+        return Begun::Stopped(Stop::CutLength, at + 1);
     }
     let len = area[at + 1] as usize;
     if len > area.len() - (at + 2) {
-        return Step::Stopped(Stop::CutValue, at + 2);
+        return Begun::Stopped(Stop::CutValue, at + 2);
     }
     let next = at + 2 + len;
     if next >= area.len() {
-        return alone(code, len, next);
+        return Begun::Alone {
+            code,
+            len,
+            place: next,
+        };
     }
     if area[next] != code {
-        return alone(code, len, next);
-    }
-    match parts::scan(area, next, code) {
-        Run::Cut => Step::Stopped(Stop::CutContinuation, next),
-        Run::Whole { parts, len: more } => Step::Found {
+        return Begun::Alone {
             code,
-            parts: parts + 1,
-            len: len + more,
-            place: next + 2 * parts + more,
-        },
+            len,
+            place: next,
+        };
     }
+    Begun::Several(at)
 }
 
 // An option of one part.

@@ -2,10 +2,12 @@
 -- Assumes nothing.
 use mathlib.Core.Path.{_≡_, sym, ap, _∙_, subst}
 use Prim.Native.Nat.{ℕ, _+_, _-_, _≤_, _<_}
-use mathlib.Core.List.{List, _∷_}
-use lib.ListN.{length, take, drop, set, length-set}
+use mathlib.Core.List.{List, _∷_, _++_}
+use lib.ListN.{length, take, drop, set, length-set, length-drop}
+use lib.Seq.{length-take-le}
 use native.Mathlib.Omega.{arith}
 use Rattle.facts.specs.Over.{over}
+use Rattle.facts.proofs.Over.{over-part, over-all}
 use Rattle.rfc.specs.Numbers.{given, refused}
 use Rattle.rfc.specs.Writing.{Write, answerTo, roomAfter, writeSlice}
 use Rattle.rfc.proofs.Writing.{Alike, refused-left, slice-4, slice-8, slice-given, slice-left}
@@ -65,6 +67,15 @@ module _ (bytes room : List ℕ) (place : ℕ) where
 pub put-over : (bytes room room′ : List ℕ) (place : ℕ) (r : Written) → place + length bytes ≤ length room
     → Wrote (writeSlice bytes room place) room room′ place r → room′ ≡ over room place bytes
 put-over bytes room room′ place r h w = w .left ∙ slice-left bytes room place (omega arith) h
+
+-- and so are bytes that are written into just their part of a room
+pub put-part : (bytes room : List ℕ) (at n : ℕ) {part : List ℕ} {r : Written} → length bytes ≡ n → at + n ≤ length room
+    → Wrote (writeSlice bytes (take n (drop at room)) 0) (take n (drop at room)) part 0 r
+    → take at room ++ (part ++ drop n (drop at room)) ≡ over room at bytes
+put-part bytes room at n {part} e h w =
+    let l : length (take n (drop at room)) ≡ n = length-take-le n (drop at room) (omega (arith, length-drop at room)) in
+    let all : part ≡ bytes = put-over bytes _ part 0 _ (omega arith) w ∙ over-all _ bytes (omega arith) in
+    ap (λ (p : List ℕ). take at room ++ (p ++ drop n (drop at room))) all ∙ over-part room at n bytes e
 
 -- two stores, and behind them a writer's bytes, which are made of n elements of a list: a part
 pub part-put : (make : List ℕ → List ℕ) (room l : List ℕ) (at code size from n : ℕ) → length (make (take n (drop from l))) ≡ size

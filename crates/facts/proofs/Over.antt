@@ -5,7 +5,7 @@ use Prim.Native.Nat.{ℕ, suc, _+_, _-_, _≤_, _<_}
 use native.Mathlib.Omega.{arith}
 use native.Mathlib.Nat.{add-zero}
 use mathlib.Core.List.{List, [], _∷_, _++_, append-assoc, append-nil}
-use lib.ListN.{length, take, drop, set, length-take, length-drop, length-append, take-append-drop}
+use lib.ListN.{length, take, drop, set, length-take, length-drop, length-append, take-append-drop, drop-of-length-le}
 use lib.Seq.{length-take-le, take-at, drop-at, take-add, drop-drop, set-split, append-snoc}
 use Rattle.facts.specs.Over.{over}
 
@@ -38,6 +38,15 @@ module _ (d : List ℕ) (at : ℕ) (s : List ℕ) (fits : at + length s ≤ leng
 
   pub shown-over : take (length s) (drop at (over d at s)) ≡ s
   shown-over = ap (take (length s)) from-over ∙ take-at s (drop (at + length s) d) (length s) refl
+
+-- as many elements in the place of a part of a list, and in the place of all of it
+pub over-part : (d : List ℕ) (at n : ℕ) (s : List ℕ) → length s ≡ n → take at d ++ (s ++ drop n (drop at d)) ≡ over d at s
+unfolding over
+over-part d at n s e = rw (← e, drop-drop, append-assoc)
+
+pub over-all : (d s : List ℕ) → length s ≡ length d → over d 0 s ≡ s
+unfolding over
+over-all d s e = let z : length d ≤ 0 + length s = omega arith in ap (λ (l : List ℕ). s ++ l) (drop-of-length-le d z) ∙ append-nil s
 
 -- a write behind another
 pub over-over : (d : List ℕ) (at : ℕ) (a b : List ℕ) → at + length a ≤ length d

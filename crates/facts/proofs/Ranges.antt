@@ -25,15 +25,15 @@ uniform other (row l h answer ∷ rows) low high =
     cond (ltb h low || ltb high l) (uniform other rows low high) (cond (leb l low && leb high h) (some answer) none)
 
 -- a number above a range, below it, and within it
-above : (l h n : ℕ) → h < n → within l h n ≡ false
+pub above : (l h n : ℕ) → h < n → within l h n ≡ false
 unfolding within
 above l h n p = simp (lt-leb n h p, and-false)
 
-below : (l h n : ℕ) → n < l → within l h n ≡ false
+pub below : (l h n : ℕ) → n < l → within l h n ≡ false
 unfolding within
 below l h n p = rw (lt-leb l n p)
 
-inside : (l h n : ℕ) → l ≤ n → n ≤ h → within l h n ≡ true
+pub inside : (l h n : ℕ) → l ≤ n → n ≤ h → within l h n ≡ true
 unfolding within
 inside l h n p q = simp (le-leb l n p, le-leb n h q)
 

@@ -54,7 +54,12 @@ fn put_list(
     let mut at = pages::put_count(page, place, count);
     let mut i: usize = 0;
     while i < count {
-        at = put_element(page, at, reading::sindovaleph_element(code, value, i), size);
+        at = put_element(
+            page,
+            at,
+            sindovaleph_elements::sindovaleph_element(code, value, i),
+            size,
+        );
         i += 1;
     }
     at

@@ -103,6 +103,25 @@ extend-inv v vs m (run k ws) e =
       (λ i. run (q i) (sym (drop-append-seam v ws) i)) ∙ ap (λ (l : List ℕ). run m (drop (length v) l)) w,
     )
 
+-- where the code stands, a run that is not cut has a part
+pub some-at : (area : List ℕ) (i code n : ℕ) (vs : List ℕ) → i < length area → getD area i 0 ≡ code → further code (drop i area) ≡ run n vs
+    → 1 ≤ n
+unfolding extend
+some-at area i code n vs h k e = go (decLe (i + 2) (length area)) (decLe (i + 2 + m) (length area))
+  where
+    m : ℕ
+    m = getD area (i + 1) 0
+
+    begun : (v : List ℕ) (r : Run) → extend v r ≡ run n vs → 1 ≤ n
+    begun v cut q = cut-run cut n vs refl q
+    begun v (run j ws) q = let z : suc j ≡ n = cc in omega arith
+
+    go : Dec (i + 2 ≤ length area) → Dec (i + 2 + m ≤ length area) → 1 ≤ n
+    go (no g) _ = cut-run _ _ _ (further-no-length-at area i code h k (omega arith)) e
+    go (yes g) (no w) = cut-run _ _ _ (further-no-value-at area i code g k (omega arith)) e
+    go (yes g) (yes w) =
+        begun (take m (drop (i + 2) area)) (further code (drop (i + 2 + m) area)) (sym (further-more-at area i code k w) ∙ e)
+
 -- where a run of one part and more stands at i: its first part is complete, and the run goes on behind it
 pub record Next (area : List ℕ) (i code m : ℕ) (vs : List ℕ) : Type 0 where
   pub within : i + 2 + getD area (i + 1) 0 ≤ length area

@@ -9,6 +9,7 @@ ghost use Rattle.rfc.specs.Text.{utf8};
 ghost use Rattle.rfc.specs.Writing.{writeBytes, close};
 ghost use Rattle.header.specs.Header.{allOf};
 ghost use Rattle.crossing.specs.Carried.{fieldOf, Stepped, Wrote};
+use borrowed::answer::First;
 use crossing::answers::Field;
 use crossing::answers::Step;
 use crossing::answers::Written;
@@ -47,12 +48,58 @@ pub extern "C" fn sindovaleph_is_utf8(text: &[u8]) -> bool
     text::is_utf8(text)
 }
 
-// One call of the walk at `place`. An option of two parts or more is joined in `join`.
+// One call of the walk at `place`. An option of two parts or more is joined in `join`. What a first look tells is answered at once. The
+// rest stands in two arms that could be one: a function with two callers is kept apart by the compiler, and then the short way needs none
+// of its registers. The area is lent as a new slice, and the answer built anew, so that the short way needs no memory for them either.
 #[no_mangle]
 pub extern "C" fn sindovaleph_step(area: &[u8], place: usize, join: &mut [u8]) -> Step
     ensures { λ r. ⌜ Stepped (now (area .entry)) place (now (join .entry)) (now (join .exit)) r ⌝ }
 {
+    match borrowed::first(area, place) {
+        First::Alone {
+            code,
+            len,
+            place: to,
+        } => Step {
+            refused: 0,
+            stop: 0,
+            code,
+            parts: 1,
+            len,
+            place: to,
+        },
+        First::Ends(to) => Step {
+            refused: 0,
+            stop: 2,
+            code: 0,
+            parts: 0,
+            len: 0,
+            place: to,
+        },
+        First::Several => anew(long_way(&area[0..area.len()], place, join)),
+        First::Other => anew(long_way(&area[0..area.len()], place, join)),
+    }
+}
+
+// The long way of a step: any place of any area.
+fn long_way(area: &[u8], place: usize, join: &mut [u8]) -> Step
+    ensures { λ r. ⌜ Stepped (now (area .entry)) place (now (join .entry)) (now (join .exit)) r ⌝ }
+{
     crossing::step_of(borrowed::step(area, place, join), place)
+}
+
+// An answer, built anew.
+fn anew(s: Step) -> Step
+    ensures { λ r. ⌜ r ≡ s ⌝ }
+{
+    Step {
+        refused: s.refused,
+        stop: s.stop,
+        code: s.code,
+        parts: s.parts,
+        len: s.len,
+        place: s.place,
+    }
 }
 
 // A byte value.

@@ -9,10 +9,10 @@ use Rattle.sindovaleph_rows.specs.Listing.{Columns, Lists}
 use Rattle.sindovaleph_rows.specs.declared.listing.Listed.{Listed}
 use Rattle.sindovaleph_rows.proofs.listing.sindovaleph_list.Kinds as list-kinds
 use Rattle.sindovaleph_rows.proofs.listing.sindovaleph_list.Reads as list
-use Rattle.sindovaleph_rows.proofs.listing.sindovaleph_read_list.Kinds as read-list-kinds
-use Rattle.sindovaleph_rows.proofs.listing.sindovaleph_read_list.Reads as read-list
+use Rattle.sindovaleph_rows.proofs.listing.read_list.Kinds as read-list-kinds
+use Rattle.sindovaleph_rows.proofs.listing.read_list.Reads as read-list
 
-lists-one : {c : Columns} {area : List ℕ} {place : ℕ} {rows r₁ r₂ : List ℕ} {a b : Listed}
+pub lists-one : {c : Columns} {area : List ℕ} {place : ℕ} {rows r₁ r₂ : List ℕ} {a b : Listed}
     → Lists c area place rows r₁ a → Lists c area place rows r₂ b → (a ≡ b) × (r₁ ≡ r₂)
 lists-one p q = (p .told ∙ sym (q .told), p .kept ∙ sym (q .kept))
 

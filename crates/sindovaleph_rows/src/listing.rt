@@ -45,14 +45,9 @@ pub extern "C" fn sindovaleph_list(area: &[u8], place: usize, rows: &mut [usize]
 }
 
 // The same with what each option reads as, plain or strict, eight numbers a row: the four of `sindovaleph_list`, then those of
-// `Value`. Since nothing is joined, an option of two parts or more is refused with 5, unless it is empty.
-#[no_mangle]
-pub extern "C" fn sindovaleph_read_list(
-    area: &[u8],
-    place: usize,
-    rows: &mut [usize],
-    strict: bool,
-) -> Listed
+// `Value`. Since nothing is joined, an option of two parts or more is refused with 5, unless it is empty. `sindovaleph_typed_rows`
+// exports it: in each archive one function fills rows, and the compiler knows their width.
+pub fn read_list(area: &[u8], place: usize, rows: &mut [usize], strict: bool) -> Listed
     ensures { λ r. ⌜ Lists (typed (modeOf strict)) (now (area .entry)) place (now (rows .entry)) (now (rows .exit)) r ⌝ }
 {
     if area.len() > MOST_BYTES {

@@ -1,9 +1,9 @@
-// Typed reading of a value, and of one element of a list.
+// Typed reading of a value. Nothing else in this archive reads one, so the compiler makes one piece of it; `sindovaleph_elements` reads an
+// element of a list.
 ghost use mathlib.Core.Path.{_≡_};
-ghost use Rattle.rfc.specs.Values.{read, element, plain};
+ghost use Rattle.rfc.specs.Values.{read};
 ghost use Rattle.values.specs.Reading.{modeOf};
-ghost use Rattle.crossing.specs.Carried.{valueOf, elementOf};
-use crossing::answers::Element;
+ghost use Rattle.crossing.specs.Carried.{valueOf};
 use crossing::answers::Value;
 
 // What the value of an option with this code reads as, plain or strict.
@@ -12,12 +12,4 @@ pub extern "C" fn sindovaleph_read(code: u8, value: &[u8], strict: bool) -> Valu
     ensures { λ r. ⌜ r ≡ valueOf (read (modeOf strict) code (now (value .entry))) ⌝ }
 {
     crossing::value_of(values::read(code, value, strict))
-}
-
-// The element at an index of a list.
-#[no_mangle]
-pub extern "C" fn sindovaleph_element(code: u8, value: &[u8], index: usize) -> Element
-    ensures { λ r. ⌜ r ≡ elementOf (element index (read plain code (now (value .entry)))) ⌝ }
-{
-    crossing::element_of(values::element(code, value, index))
 }

@@ -1,56 +1,97 @@
--- What a first byte of three or of four asks for, said by the lowest and the highest byte that may follow it.
+-- What first bytes ask for that the code tests together: those of three that leave out no byte of UTF8-tail, and all of four.
 -- Assumes nothing.
-use mathlib.Core.Path.{_≡_, refl}
+use mathlib.Core.Path.{_≡_}
+use mathlib.Core.Bool.{true, false}
 use mathlib.Core.List.{List, [], _∷_}
 use mathlib.Core.Option.{some}
-use Prim.Native.Nat.{ℕ, _≤_, _<_}
+use Prim.Native.Nat.{ℕ, _+_, _≤_, _<_}
 use native.Mathlib.Decide.{decLe}
 use native.Mathlib.Omega.{arith}
 use lib.ListN.{length, getD}
-use Rattle.facts.proofs.Ranges.{uniform, one-answer, outside}
-use Rattle.facts.specs.Ranges.{Row, row, lookup}
+use Rattle.facts.specs.Ranges.{within}
+use Rattle.facts.proofs.Ranges.{inside, above, below}
 use Rattle.rfc.specs.Text.{Range, range, tail, lead}
-use Rattle.rfc.proofs.Text.{lead-e0, lead-e1-ec, lead-ed, lead-ee-ef, lead-f0, lead-f1-f3, lead-f4}
-use Rattle.text.specs.Width.{Asks, lowests, lowestAfter, highests, highestAfter}
+use Rattle.rfc.proofs.Text.{lead-e1-ec, lead-ee-ef, lead-f0, lead-f1-f3, lead-f4, lead-f5-on, Reached, begun, followed, not-followed}
+use Rattle.text.specs.Width.{Four, Width}
+use Rattle.text.proofs.Widths.{nothing, none-there, cut}
 
-module _ (b : ℕ) where
-  -- what a table gives a byte that is one number, and a byte that neither of its two rows names
-  pub at-row : (other : ℕ) (rows : List (Row ℕ)) (k : ℕ) {v : ℕ} → b ≡ k → uniform other rows k k ≡ some v → lookup other rows b ≡ v
-  at-row other rows k e u = one-answer other k k b (omega arith) (omega arith) rows _ u
+pub lead-e1-ef : (b : ℕ) → 0xe1 ≤ b → b ≤ 0xef → (b ≡ 0xed → ⊥) → lead b ≡ some (tail ∷ tail ∷ [])
+lead-e1-ef b p q n = by (decLe b 0xec)
+  where
+    by : Dec (b ≤ 0xec) → lead b ≡ some (tail ∷ tail ∷ [])
+    by (yes u) = lead-e1-ec b p u
+    by (no u) = lead-ee-ef b (omega arith) q
 
-  pub past-rows : (other k₁ v₁ k₂ v₂ : ℕ) → (b ≡ k₁ → ⊥) → (b ≡ k₂ → ⊥) → lookup other (row k₁ k₁ v₁ ∷ row k₂ k₂ v₂ ∷ []) b ≡ other
-  unfolding lookup
-  past-rows other k₁ v₁ k₂ v₂ n₁ n₂ = rw (outside k₁ b n₁, outside k₂ b n₂)
+-- a first byte of four: what it asks for, which is what the two bytes together are tested for
+record Leads (b : ℕ) : Type 0 where
+  low : ℕ
+  high : ℕ
+  leads : lead b ≡ some (range low high ∷ tail ∷ tail ∷ [])
+  only : (c : ℕ) → low ≤ c → c ≤ high → Four b c
+  all : (c : ℕ) → Four b c → (low ≤ c) × (c ≤ high)
 
-  -- a row of the grammar, said so
-  bounded : (from to : ℕ) {low high : ℕ} {ranges : List Range} → from ≤ b → b ≤ to
-      → uniform 0x80 lowests from to ≡ some low → uniform 0xbf highests from to ≡ some high
-      → lead b ≡ some (range low high ∷ ranges) → lead b ≡ some (range (lowestAfter b) (highestAfter b) ∷ ranges)
-  unfolding lowestAfter highestAfter
-  bounded from to p q l h e = rw (one-answer 0x80 from to b p q lowests _ l, one-answer 0xbf from to b p q highests _ h) e
+leads-four : (b : ℕ) → 0xf0 ≤ b → b ≤ 0xf4 → Leads b
+leads-four b p q = by (decLe b 0xf0) (decLe b 0xf3)
+  where
+    by : Dec (b ≤ 0xf0) → Dec (b ≤ 0xf3) → Leads b
+    by (yes u) v =
+        record {
+          low = 0x90;
+          high = 0xbf;
+          leads = lead-f0 b (omega arith);
+          only = λ c l h. (omega arith, omega arith, omega arith, omega arith);
+          all = λ c f. (omega arith, omega arith);
+        }
+    by (no u) (yes v) =
+        record {
+          low = 0x80;
+          high = 0xbf;
+          leads = lead-f1-f3 b (omega arith) v;
+          only = λ c l h. (omega arith, omega arith, omega arith, omega arith);
+          all = λ c f. (omega arith, omega arith);
+        }
+    by (no u) (no v) =
+        record {
+          low = 0x80;
+          high = 0x8f;
+          leads = lead-f4 b (omega arith);
+          only = λ c l h. (omega arith, omega arith, omega arith, omega arith);
+          all = λ c f. (omega arith, omega arith);
+        }
 
-  pub lead-e0-ef : 0xe0 ≤ b → b ≤ 0xef → lead b ≡ some (range (lowestAfter b) (highestAfter b) ∷ tail ∷ [])
-  unfolding lowests highests
-  lead-e0-ef p q = by (decLe b 0xe0) (decLe b 0xec) (decLe b 0xed)
+-- a place where such a byte stands, or one above
+module _ (text : List ℕ) (at : ℕ) (there : at < length text) (high : 0xf0 ≤ getD text at 0) where
+  abbrev b : ℕ
+  b = getD text at 0
+
+  abbrev c : ℕ
+  c = getD text (at + 1) 0
+
+  -- the text ends before four bytes
+  pub four-cut : length text ≤ at + 3 → Width text at 0
+  four-cut h = by (decLe b 0xf4)
     where
-      by : Dec (b ≤ 0xe0) → Dec (b ≤ 0xec) → Dec (b ≤ 0xed) → lead b ≡ some (range (lowestAfter b) (highestAfter b) ∷ tail ∷ [])
-      by (yes u) v w = bounded 0xe0 0xe0 p u refl refl (lead-e0 b (omega arith))
-      by (no u) (yes v) w = bounded 0xe1 0xec (omega arith) v refl refl (lead-e1-ec b (omega arith) v)
-      by (no u) (no v) (yes w) = bounded 0xed 0xed (omega arith) w refl refl (lead-ed b (omega arith))
-      by (no u) (no v) (no w) = bounded 0xee 0xef (omega arith) q refl refl (lead-ee-ef b (omega arith) q)
+      by : Dec (b ≤ 0xf4) → Width text at 0
+      by (yes u) = cut (record { there = there; leads = leads-four b high u .leads }) h
+      by (no u) = none-there there (lead-f5-on b (omega arith))
 
-  pub lead-f0-f4 : 0xf0 ≤ b → b ≤ 0xf4 → lead b ≡ some (range (lowestAfter b) (highestAfter b) ∷ tail ∷ tail ∷ [])
-  unfolding lowests highests
-  lead-f0-f4 p q = by (decLe b 0xf0) (decLe b 0xf3)
-    where
-      by : Dec (b ≤ 0xf0) → Dec (b ≤ 0xf3) → lead b ≡ some (range (lowestAfter b) (highestAfter b) ∷ tail ∷ tail ∷ [])
-      by (yes u) v = bounded 0xf0 0xf0 p u refl refl (lead-f0 b (omega arith))
-      by (no u) (yes v) = bounded 0xf1 0xf3 (omega arith) v refl refl (lead-f1-f3 b (omega arith) v)
-      by (no u) (no v) = bounded 0xf4 0xf4 (omega arith) q refl refl (lead-f4 b (omega arith))
+  module _ (next : at + 1 < length text) where
+    -- the second byte is right, or not
+    pub four-on : Four b c → Reached text at 2 (some (tail ∷ tail ∷ []))
+    four-on f =
+        let l = leads-four b high (omega arith) in
+        followed (begun there (l .leads)) next (inside _ _ _ (l .all c f .0) (l .all c f .1))
 
--- a place where such a byte stands, and the two that the code found for it
-pub asks-so : {text : List ℕ} {at low high : ℕ} {ranges : List Range} → at < length text
-    → low ≡ lowestAfter (getD text at 0) → high ≡ highestAfter (getD text at 0)
-    → lead (getD text at 0) ≡ some (range (lowestAfter (getD text at 0)) (highestAfter (getD text at 0)) ∷ ranges)
-    → Asks text at (range low high ∷ ranges)
-asks-so h l u e = record { there = h; leads = rw (l, u) e }
+    pub four-off : (Four b c → ⊥) → Width text at 0
+    four-off n = by (decLe b 0xf4)
+      where
+        wrong : (l : Leads b) → Dec (l .low ≤ c) → Dec (c ≤ l .high) → within (l .low) (l .high) c ≡ false
+        wrong l (yes u) (yes v) = absurd (n (l .only c u v))
+        wrong l (yes u) (no v) = above _ _ _ (omega arith)
+        wrong l (no u) v = below _ _ _ (omega arith)
+
+        by : Dec (b ≤ 0xf4) → Width text at 0
+        by (yes u) =
+            let l = leads-four b high u in
+            nothing (omega arith) (not-followed (begun there (l .leads)) next (wrong l (decLe (l .low) c) (decLe c (l .high))))
+        by (no u) = none-there there (lead-f5-on b (omega arith))

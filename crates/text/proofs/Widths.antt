@@ -14,7 +14,7 @@ use Rattle.rfc.proofs.Text.{Reached, begun, followed, passed, not-begun, not-fo
 use Rattle.text.specs.Width.{Asks, Width}
 
 module _ {text : List ℕ} {at : ℕ} where
-  nothing : at ≤ length text → utf8 (drop at text) ≡ false → Width text at 0
+  pub nothing : at ≤ length text → utf8 (drop at text) ≡ false → Width text at 0
   nothing h e = record { inside = omega arith; wrong = λ _. e; passed = λ ne. absurd (ne refl) }
 
   -- no form begins with the byte

@@ -1,17 +1,17 @@
 // Whether bytes are UTF-8, as the crate's `Decoder::read_string` asks it of `str::from_utf8`: first past the blocks of ASCII bytes in
 // front, then by whole characters, a form of the grammar of RFC 3629, section 4, for each.
 ghost use mathlib.Core.Path.{_≡_};
-ghost use mathlib.Core.Bool.{false};
+ghost use mathlib.Core.Bool.{true, false};
 ghost use mathlib.Core.List.{[], _∷_};
 ghost use Prim.Native.Nat.{_+_, _≤_, _<_};
-ghost use lib.ListN.{length, drop};
+ghost use lib.ListN.{length, drop, getD};
 ghost use Rattle.facts.specs.Ranges.{within};
 ghost use Rattle.rfc.specs.Text.{utf8, range, tail};
 ghost use Rattle.text.specs.Ascii.{Ascii};
-ghost use Rattle.text.specs.Width.{Asks, Width, lowestAfter, highestAfter};
+ghost use Rattle.text.specs.Width.{Asks, Four, Width};
 
 // How many bytes are looked at together for one that is not ASCII.
-const BLOCK: usize = 128;
+const BLOCK: usize = 256;
 
 // Whether the bytes are UTF-8. They may be any bytes, of any number.
 pub fn is_utf8(text: &[u8]) -> bool
@@ -118,53 +118,24 @@ fn width_at(text: &[u8], i: usize) -> usize
     if first < 0x80 {
         return 1;
     }
-    if first < 0xc2 {
-        return 0;
-    }
     // UTF8-2 = %xC2-DF UTF8-tail
     if first < 0xe0 {
+        if first < 0xc2 {
+            return 0;
+        }
         return two_bytes(text, i);
     }
     // UTF8-3 = %xE0 %xA0-BF UTF8-tail / %xE1-EC 2( UTF8-tail ) / %xED %x80-9F UTF8-tail / %xEE-EF 2( UTF8-tail )
     if first < 0xf0 {
-        return three_bytes(text, i, lowest(first), highest(first));
+        if first == 0xe0 {
+            return three_bytes(text, i, 0xa0, 0xbf);
+        }
+        if first == 0xed {
+            return three_bytes(text, i, 0x80, 0x9f);
+        }
+        return three_bytes(text, i, 0x80, 0xbf);
     }
-    // UTF8-4 = %xF0 %x90-BF 2( UTF8-tail ) / %xF1-F3 3( UTF8-tail ) / %xF4 %x80-8F 2( UTF8-tail )
-    if first < 0xf5 {
-        return four_bytes(text, i, lowest(first), highest(first));
-    }
-    0
-}
-
-// The lowest byte that may follow a first byte: that of UTF8-tail, but where fewer bytes would do for a lower one.
-fn lowest(first: u8) -> u8
-    ensures { λ r. ⌜ r ≡ lowestAfter first ⌝ }
-{
-    // %xE0 %xA0-BF
-    if first == 0xe0 {
-        return 0xa0;
-    }
-    // %xF0 %x90-BF
-    if first == 0xf0 {
-        return 0x90;
-    }
-    0x80
-}
-
-// The highest byte that may follow a first byte: that of UTF8-tail, but where a higher one would make a surrogate or a number above
-// 10ffff.
-fn highest(first: u8) -> u8
-    ensures { λ r. ⌜ r ≡ highestAfter first ⌝ }
-{
-    // %xED %x80-9F
-    if first == 0xed {
-        return 0x9f;
-    }
-    // %xF4 %x80-8F
-    if first == 0xf4 {
-        return 0x8f;
-    }
-    0xbf
+    four_bytes(text, i, first)
 }
 
 // The width where the first byte at `i` asks for one more, UTF8-tail = %x80-BF.
@@ -198,15 +169,15 @@ fn three_bytes(text: &[u8], i: usize, low: u8, high: u8) -> usize
     3
 }
 
-// The width where it asks for three more: one from `low` to `high`, and two UTF8-tail.
-fn four_bytes(text: &[u8], i: usize, low: u8, high: u8) -> usize
-    requires { ⌜ Asks (now text) i (range low high ∷ tail ∷ tail ∷ []) ⌝ }
+// The width where the first byte at `i` is 0xf0 or above.
+fn four_bytes(text: &[u8], i: usize, first: u8) -> usize
+    requires { ⌜ (i < length (now text)) × (first ≡ getD (now text) i 0) × (0xf0 ≤ first) ⌝ }
     ensures { λ r. ⌜ Width (now (text .entry)) i r ⌝ }
 {
     if i + 3 >= text.len() {
         return 0;
     }
-    if !between(text[i + 1], low, high) {
+    if !begins_four(first, text[i + 1]) {
         return 0;
     }
     if !between(text[i + 2], 0x80, 0xbf) {
@@ -216,6 +187,27 @@ fn four_bytes(text: &[u8], i: usize, low: u8, high: u8) -> usize
         return 0;
     }
     4
+}
+
+// Whether two bytes begin a character of four, UTF8-4 = %xF0 %x90-BF 2( UTF8-tail ) / %xF1-F3 3( UTF8-tail ) / %xF4 %x80-8F 2( UTF8-tail ):
+// a tail, and as one number from 0xf090 to 0xf48f. No test of it is true of a character, so that no jump is taken.
+fn begins_four(first: u8, second: u8) -> bool
+    ensures { λ r. ⌜ (r ≡ true → Four first second) × (r ≡ false → Four first second → ⊥) ⌝ }
+{
+    if second < 0x80 {
+        return false;
+    }
+    if second > 0xbf {
+        return false;
+    }
+    let both = first as u32 * 256 + second as u32;
+    if both < 0xf090 {
+        return false;
+    }
+    if both > 0xf48f {
+        return false;
+    }
+    true
 }
 
 // Whether a byte is one from `low` to `high`.

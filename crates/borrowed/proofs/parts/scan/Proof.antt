@@ -7,7 +7,7 @@ use lib.ListN.{length, drop}
 use Rattle.rfc.specs.Walk.{further}
 use Rattle.rfc.proofs.Places.{further-none-at, further-other-at, further-no-length-at, further-no-value-at}
 use Rattle.borrowed.specs.Walked.{sizeOf}
-use Rattle.borrowed.proofs.Runs.{grow, grow-none, grow-run, grow-cut, scan-turn}
+use Rattle.borrowed.proofs.Runs.{grow, grow-none, grow-run, grow-cut, scan-turn, scan-empty}
 use Rattle.borrowed.proofs.parts.scan.Statement.{statement}
 use Rattle.borrowed.proofs.parts.scan.Tie as tie
 
@@ -35,15 +35,21 @@ cast-n c = omega (arith, c .shared-slice-known2 .given (c .before .before .befor
 
 returns-3 : tie.Need-returns-3 Inv-loop μ-loop
 returns-3 c =
-    let test = c .before .before .before in
+    let test = c .before .before .before .before in
     let l = test .before .before .before .loop in
-    grow-cut _ _ _ (further-no-value-at _ (l .i) _ (omega arith) (test .if1 .left) (c .if3 .taken)) ∙ sym (l .inv .2)
+    grow-cut _ _ _ (further-no-value-at _ (l .i) _ (omega arith) (test .if1 .left) (c .if4 .taken)) ∙ sym (l .inv .2)
 
 loop-again : tie.Need-loop-again Inv-loop μ-loop
 loop-again c =
-    let test = c .before .before .before in
+    let test = c .before .before .before .before in
     let l = test .before .before .before .loop in
     (omega arith, omega arith, l .inv .2 ∙ scan-turn _ (l .i) _ (l .parts) (l .len) (test .if1 .left) (omega arith))
+
+loop-again-2 : tie.Need-loop-again-2 Inv-loop μ-loop
+loop-again-2 c =
+    let test = c .before .before .before in
+    let l = test .before .before .before .loop in
+    (omega arith, omega arith, l .inv .2 ∙ scan-empty _ (l .i) _ (l .parts) (l .len) (test .if1 .left) (c .if3 .left) (omega arith))
 
 returns-4 : tie.Need-returns-4 Inv-loop μ-loop
 returns-4 c =
@@ -66,11 +72,12 @@ scan-spec =
     cast-n
     (λ c. omega arith)
     (λ c. omega arith)
+    (λ c. omega arith)
     returns-3
     (λ c. omega arith)
     (λ c. omega arith)
     (λ c. omega arith)
-    (λ c. omega arith)
-    (λ c. omega arith)
     loop-again
+    (λ c. omega arith)
+    loop-again-2
     returns-4)

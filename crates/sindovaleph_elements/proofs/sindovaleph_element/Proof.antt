@@ -1,8 +1,8 @@
 -- `sindovaleph_element` meets its contract: its answer crosses.
 -- Assumes nothing.
 use borrow.Author.Needs.{needs}
-use Rattle.sindovaleph_typed.proofs.reading.sindovaleph_element.Statement.{statement}
-use Rattle.sindovaleph_typed.proofs.reading.sindovaleph_element.Tie as tie
+use Rattle.sindovaleph_elements.proofs.sindovaleph_element.Statement.{statement}
+use Rattle.sindovaleph_elements.proofs.sindovaleph_element.Tie as tie
 
 pub sindovaleph-element-spec : {M : Type 1} → statement M
 sindovaleph-element-spec =
