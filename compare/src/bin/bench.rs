@@ -1,4 +1,4 @@
-//! `compare/bench [--tsv] [FILE..]`: how fast the library and the crate are.
+//! `compare/bench [--tsv | --before=TABLE] [FILE..]`: how fast the library and the crate are.
 
 use compare::speed::arguments::{self, Wanted};
 use compare::speed::measuring;
@@ -19,7 +19,7 @@ fn main() -> ExitCode {
         }
     };
     let done = match wanted {
-        Wanted::Page => measuring::page(files),
+        Wanted::Page { before } => measuring::page(files, before.as_deref()),
         Wanted::Tsv => measuring::tsv(files),
         Wanted::Times => measuring::times(files),
         Wanted::Repeat { case, who, times } => measuring::repeat(&case, who, times, &files),

@@ -1,4 +1,5 @@
-//! One case: the same work by the library and by the crate, so often as is asked, with its answers to be compared.
+//! One case: the same work by the library, by the crate and, where there is such a limit, by hand-written C, so often as is asked,
+//! with its answers to be compared.
 
 use std::hint::black_box;
 
@@ -84,35 +85,62 @@ impl<S: Side> Work for S {
     }
 }
 
-/// The two sides, in the order of all that comes in pairs.
+/// The sides, in the order of all that comes by side.
 #[derive(Clone, Copy, Debug, PartialEq, Eq)]
 pub enum Who {
     Library,
     Crate,
+    Limit,
 }
 
 impl Who {
-    pub const BOTH: [Who; 2] = [Who::Library, Who::Crate];
+    pub const ALL: [Who; 3] = [Who::Library, Who::Crate, Who::Limit];
 
     /// Its name in words, and as an argument.
     pub fn name(self) -> &'static str {
         match self {
             Who::Library => "library",
             Who::Crate => "crate",
+            Who::Limit => "limit",
         }
     }
+}
+
+/// What a cost is shared by, where it is held against another case's.
+#[derive(Clone, Copy, Debug, PartialEq, Eq)]
+pub enum Unit {
+    Byte,
+    Option,
+}
+
+impl Unit {
+    pub fn name(self) -> &'static str {
+        match self {
+            Unit::Byte => "byte",
+            Unit::Option => "option",
+        }
+    }
+}
+
+/// How large the work of a case is.
+#[derive(Clone, Copy)]
+pub struct Size {
+    /// About how many bytes it goes over.
+    pub bytes: usize,
+    /// How many options it finds, where that is told.
+    pub options: usize,
 }
 
 /// A case.
 pub struct Case {
     pub name: String,
-    /// The ratio that is aimed at.
+    /// The ratios that are aimed at, of times and of instructions.
     pub target: Option<f64>,
-    /// About how many bytes the work goes over.
-    pub bytes: usize,
-    /// The case whose cost a byte this one's is held against; none where the library is held against the crate.
-    pub base: Option<&'static str>,
-    sides: [Box<dyn Work>; 2],
+    pub count_target: Option<f64>,
+    pub size: Size,
+    /// The case that this one's cost a byte, or an option, is held against; none where the library is held against the crate.
+    pub base: Option<(&'static str, Unit)>,
+    sides: [Option<Box<dyn Work>>; 3],
 }
 
 impl Case {
@@ -123,38 +151,65 @@ impl Case {
         library: impl Side + 'static,
         theirs: impl Side + 'static,
     ) -> Case {
-        let sides: [Box<dyn Work>; 2] = [Box::new(library), Box::new(theirs)];
-        Case { name: name.into(), target: None, bytes, base: None, sides }
+        let sides: [Option<Box<dyn Work>>; 3] = [Some(Box::new(library)), Some(Box::new(theirs)), None];
+        let size = Size { bytes, options: 0 };
+        Case { name: name.into(), target: None, count_target: None, size, base: None, sides }
     }
 
-    /// The same with a ratio that is aimed at.
+    /// The same with the limit: hand-written C.
+    #[cfg_attr(not(limit), allow(dead_code))]
+    pub fn limited_by(mut self, limit: impl Side + 'static) -> Case {
+        self.sides[Who::Limit as usize] = Some(Box::new(limit));
+        self
+    }
+
+    /// The same with a ratio of times that is aimed at.
     pub fn aims_at(self, target: f64) -> Case {
         Case { target: Some(target), ..self }
     }
 
-    /// The same, held against another case by the library's cost a byte.
-    pub fn grown_from(self, base: &'static str) -> Case {
-        Case { base: Some(base), ..self }
+    /// The same with a ratio of instructions that is aimed at.
+    pub fn counts_at_most(self, target: f64) -> Case {
+        Case { count_target: Some(target), ..self }
     }
 
-    /// So many repetitions of one side's work.
+    /// The same, which finds so many options.
+    pub fn finds(self, options: usize) -> Case {
+        Case { size: Size { options, ..self.size }, ..self }
+    }
+
+    /// The same, held against another case by the library's cost a byte or an option.
+    pub fn grown_from(self, base: &'static str, unit: Unit) -> Case {
+        Case { base: Some((base, unit)), ..self }
+    }
+
+    /// Whether there is this side.
+    pub fn has(&self, who: Who) -> bool {
+        self.sides[who as usize].is_some()
+    }
+
+    /// So many repetitions of one side's work, where there is this side.
     pub fn repeat(&mut self, who: Who, times: u64) {
-        black_box(self.sides[who as usize].repeat(times));
+        if let Some(side) = &mut self.sides[who as usize] {
+            black_box(side.repeat(times));
+        }
     }
 
-    /// Both sides have to answer the same; else it is said where they part.
+    /// All sides have to answer the same; else it is said where they part.
     pub fn agree(&mut self) -> Result<(), String> {
-        let [library, theirs] = &mut self.sides;
-        let (library, theirs) = (library.answers(), theirs.answers());
-        let most = library.len().max(theirs.len());
-        match (0..most).find(|&at| library.get(at) != theirs.get(at)) {
-            None => Ok(()),
-            Some(at) => {
+        let mut all = Who::ALL.map(|who| self.sides[who as usize].as_mut().map(|side| side.answers()));
+        let library = all[Who::Library as usize].take().unwrap_or_default();
+        let others = Who::ALL.into_iter().zip(all).filter_map(|(who, answers)| Some((who, answers?)));
+        for (who, answers) in others {
+            let most = library.len().max(answers.len());
+            if let Some(at) = (0..most).find(|&at| library.get(at) != answers.get(at)) {
                 let word = |answers: &[String]| answers.get(at).cloned().unwrap_or("nothing".into());
-                let (ours, said) = (word(&library), word(&theirs));
-                Err(format!("{}: answer {at} of the library is {ours}, and of the crate {said}", self.name))
+                let (ours, said) = (word(&library), word(&answers));
+                let (name, who) = (&self.name, who.name());
+                return Err(format!("{name}: answer {at} of the library is {ours}, and of the {who} {said}"));
             }
         }
+        Ok(())
     }
 }
 
@@ -180,5 +235,7 @@ mod tests {
         assert_eq!(case(&[1, 2], &[1, 3]).agree(), Err(parted));
         let short = "name: answer 1 of the library is nothing, and of the crate 2".to_string();
         assert_eq!(case(&[1], &[1, 2]).agree(), Err(short));
+        let limit = "name: answer 0 of the library is 1, and of the limit 4".to_string();
+        assert_eq!(case(&[1], &[1]).limited_by(Says(vec![4])).agree(), Err(limit));
     }
 }

@@ -1,10 +1,12 @@
-//! The times of a case: both sides in turn, round by round.
+//! The times of cases: the sides of each in turn, round by round, in several visits, so that a slow while of the machine spoils one of
+//! them and not all.
 
 use super::case::{Case, Who};
 use std::time::{Duration, Instant};
 
-/// How many rounds each side gets.
-const ROUNDS: usize = 101;
+/// How often each case is visited, and how many rounds each side then gets.
+pub const VISITS: usize = 3;
+const ROUNDS: usize = 34;
 
 /// How long a round of one side takes at least.
 const ROUND: Duration = Duration::from_micros(500);
@@ -40,17 +42,35 @@ fn repetitions(case: &mut Case, who: Who) -> u64 {
     times
 }
 
-/// The times of both sides.
-pub fn times(case: &mut Case) -> [Times; 2] {
-    let repetitions = Who::BOTH.map(|who| repetitions(case, who));
-    let mut rounds = [const { Vec::new() }; 2];
+/// What the sides of a case took, in every round.
+type Rounds = [Vec<f64>; 3];
+
+/// One visit of a case.
+fn visit(case: &mut Case, rounds: &mut Rounds) {
+    let repetitions = Who::ALL.map(|who| if case.has(who) { repetitions(case, who) } else { 0 });
     for _ in 0..ROUNDS {
-        for who in Who::BOTH {
+        for who in Who::ALL {
             let times = repetitions[who as usize];
-            rounds[who as usize].push(nanoseconds(case, who, times) / times as f64);
+            if times > 0 {
+                rounds[who as usize].push(nanoseconds(case, who, times) / times as f64);
+            }
         }
     }
-    rounds.map(Times::of)
+}
+
+/// The times of each side that is there, for all cases. It is told how many visits are over.
+pub fn times(cases: &mut [Case], mut tell: impl FnMut(usize)) -> Vec<[Option<Times>; 3]> {
+    let mut all: Vec<Rounds> = cases.iter().map(|_| Rounds::default()).collect();
+    let mut over = 0;
+    for _ in 0..VISITS {
+        for (case, rounds) in cases.iter_mut().zip(&mut all) {
+            tell(over);
+            visit(case, rounds);
+            over += 1;
+        }
+    }
+    let of = |rounds: Vec<f64>| (!rounds.is_empty()).then(|| Times::of(rounds));
+    all.into_iter().map(|rounds| rounds.map(of)).collect()
 }
 
 #[cfg(test)]
@@ -75,7 +95,10 @@ mod tests {
 
     #[test]
     fn more_work_takes_longer() {
-        let [few, many] = times(&mut Case::new("name", 1, Over(10), Over(1_000)));
+        let mut told = Vec::new();
+        let all = times(&mut [Case::new("name", 1, Over(10), Over(1_000))], |over| told.push(over));
+        assert_eq!(told, (0..VISITS).collect::<Vec<_>>());
+        let [[Some(few), Some(many), None]] = all[..] else { panic!("two sides are timed") };
         assert!(few.best > 0.0 && few.best <= few.median && many.best <= many.median);
         assert!(few.best < many.best);
     }

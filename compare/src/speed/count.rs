@@ -1,6 +1,7 @@
 //! The instructions of a side: a command runs this program and says how many instructions that took.
 
 use super::case::{Case, Who};
+use std::env;
 use std::path::{Path, PathBuf};
 use std::process::Command;
 
@@ -9,6 +10,10 @@ const VARIABLE: &str = "COUNTER";
 
 /// The usual command.
 const VALGRIND: &str = "valgrind --tool=callgrind --callgrind-out-file=/dev/null";
+
+/// The variable that names the command which runs programs for x86-64 elsewhere, the same that cargo looks at, and the usual one.
+const RUNNER: &str = "CARGO_TARGET_X86_64_UNKNOWN_LINUX_GNU_RUNNER";
+const EMULATOR: &str = "qemu-x86_64";
 
 /// What stands before the number.
 const MARK: &str = "Collected :";
@@ -22,17 +27,23 @@ const MOST: usize = 2_000;
 
 /// A command that runs a program and prints `Collected : N`.
 pub struct Counter {
+    /// What it is, in words.
+    pub name: &'static str,
     words: Vec<String>,
 }
 
 impl Counter {
-    /// The command that the variable names, or valgrind.
-    pub fn chosen() -> Counter {
-        Counter::new(&std::env::var(VARIABLE).unwrap_or(VALGRIND.into()))
+    /// The command that the variable names, or the usual one; where the code is emulated that is the emulator with our counter in it.
+    pub fn chosen(emulated: bool) -> Result<Counter, String> {
+        match env::var(VARIABLE) {
+            Ok(command) => Ok(Counter::new("the command that COUNTER names", &command)),
+            Err(_) if emulated => Ok(Counter::new("QEMU, which emulates, with compare/counter in it", &emulator()?)),
+            Err(_) => Ok(Counter::new("valgrind's callgrind", VALGRIND)),
+        }
     }
 
-    fn new(command: &str) -> Counter {
-        Counter { words: command.split_whitespace().map(String::from).collect() }
+    fn new(name: &'static str, command: &str) -> Counter {
+        Counter { name, words: command.split_whitespace().map(String::from).collect() }
     }
 
     /// The instructions of a program that repeats one side of a case.
@@ -50,17 +61,24 @@ impl Counter {
 
     /// The instructions of one repetition: what three times as many take more, so that the program's begin and end fall out.
     pub fn count(&self, program: &Path, case: &Case, who: Who, files: &[PathBuf]) -> Result<f64, String> {
-        let times = (BYTES / case.bytes.max(1)).clamp(1, MOST);
+        let times = (BYTES / case.size.bytes.max(1)).clamp(1, MOST);
         let few = self.run(program, &case.name, who, times, files)?;
         let many = self.run(program, &case.name, who, 3 * times, files)?;
         Ok((many as f64 - few as f64) / (2 * times) as f64)
     }
 }
 
+/// The emulator with our counter in it, where that was built.
+fn emulator() -> Result<String, String> {
+    let runner = env::var(RUNNER).unwrap_or(EMULATOR.into());
+    let plugin = option_env!("COUNTER_PLUGIN").ok_or(option_env!("NO_COUNTER").unwrap_or("no counter was built"))?;
+    Ok(format!("{runner} -plugin {plugin}"))
+}
+
 /// The number behind the last mark in a text.
 fn collected(text: &str) -> Option<u64> {
-    let line = text.lines().rev().find_map(|line| line.split_once(MARK))?;
-    line.1.trim().replace(',', "").parse().ok()
+    let marked = |line: &'_ str| line.split_once(MARK).map(|(_, number)| number.to_string());
+    text.lines().rev().find_map(marked)?.trim().replace(',', "").parse().ok()
 }
 
 #[cfg(test)]
@@ -76,7 +94,7 @@ mod tests {
 
     /// A command of the shell; the program's path is its first argument, `--repeat`, the case, the side and the count follow.
     fn stub(script: &str) -> Counter {
-        Counter { words: ["sh", "-c", script].map(String::from).into() }
+        Counter { name: "the shell", words: ["sh", "-c", script].map(String::from).into() }
     }
 
     fn counted(script: &str) -> Result<f64, String> {
@@ -95,7 +113,7 @@ mod tests {
     fn a_command_that_does_not_count_is_said() {
         assert!(counted("echo hello").is_err_and(|sentence| sentence.contains("its last word is `hello`")));
         let case = Case::new("name", 1, Nothing, Nothing);
-        let missing = Counter::new("no-such-command --at all").count(Path::new("x"), &case, Who::Library, &[]);
+        let missing = Counter::new("nobody", "no-such-command --at all").count(Path::new("x"), &case, Who::Library, &[]);
         assert!(missing.is_err_and(|sentence| sentence.starts_with("no-such-command ")));
     }
 

@@ -1,7 +1,7 @@
 //! How the cost grows: areas from small to the largest, full of one thing each.
 
-use super::case::{Case, Side, Sink};
-use super::inputs::{LENGTHS, Shape, area_in_parts, usual_area};
+use super::case::{Case, Side, Sink, Unit};
+use super::inputs::{LENGTHS, Shape, USUAL, area_in_parts, usual_area};
 use super::walk::{by_crate, by_step};
 use crate::paper::MOST_BYTES;
 use dhcproto::v4::borrowed::DhcpOptionIterator;
@@ -12,7 +12,8 @@ use std::hint::black_box;
 const BY_STEP: &str = "12 options, 85 bytes, by step";
 const BY_LIST: &str = "12 options, 85 bytes, by list";
 
-/// The most that a byte of the largest area may cost, against a byte of the twelve options.
+/// The most that a byte of the largest area may cost, against a byte of the twelve options; of short options an option, against one of the
+/// twelve.
 const MOST_GROWTH: f64 = 3.0;
 
 /// Options of so many parts of 255 bytes.
@@ -25,7 +26,7 @@ struct Steps {
 
 impl Side for Steps {
     fn run(&mut self, sink: &mut impl Sink) {
-        by_step(black_box(&self.area), &mut self.join, sink);
+        by_step(calls::step, black_box(&self.area), &mut self.join, sink);
     }
 }
 
@@ -66,24 +67,31 @@ impl Side for CrateList {
 
 fn by_steps(name: impl Into<String>, area: &[u8]) -> Case {
     let steps = Steps { area: area.to_vec(), join: vec![0; MOST_BYTES] };
-    Case::new(name, area.len(), steps, CrateSteps(area.to_vec())).grown_from(BY_STEP)
+    Case::new(name, area.len(), steps, CrateSteps(area.to_vec())).grown_from(BY_STEP, Unit::Byte)
 }
 
 fn by_list(name: impl Into<String>, area: &[u8]) -> Case {
     let rows = vec![Row::default(); area.len() / 2 + 1];
-    Case::new(name, area.len(), List { area: area.to_vec(), rows }, CrateList(area.to_vec())).grown_from(BY_LIST)
+    let list = List { area: area.to_vec(), rows };
+    Case::new(name, area.len(), list, CrateList(area.to_vec())).grown_from(BY_LIST, Unit::Byte)
 }
 
-/// A shape at a length, by step and by list.
+/// A shape at a length, by step and by list. Short options cost what options cost, so they are counted by option.
 fn grown(shape: Shape, len: usize) -> [Case; 2] {
     let (name, area) = (format!("{}, {len} bytes", shape.name()), shape.area(len));
-    let cases = [by_steps(format!("{name}, by step"), &area), by_list(format!("{name}, by list"), &area)];
-    if len == MOST_BYTES { cases.map(|case| case.aims_at(MOST_GROWTH)) } else { cases }
+    let mut cases = [by_steps(format!("{name}, by step"), &area), by_list(format!("{name}, by list"), &area)];
+    if let Some(options) = shape.short_options(len) {
+        let [steps, list] = cases;
+        cases = [steps.grown_from(BY_STEP, Unit::Option), list.grown_from(BY_LIST, Unit::Option)];
+        cases = cases.map(|case| case.finds(options));
+    }
+    if len == MOST_BYTES { cases.map(|case| case.aims_at(MOST_GROWTH).counts_at_most(MOST_GROWTH)) } else { cases }
 }
 
 /// All of them.
 pub fn cases() -> Vec<Case> {
-    let mut cases = vec![by_steps(BY_STEP, &usual_area()), by_list(BY_LIST, &usual_area())];
+    let bases = [by_steps(BY_STEP, &usual_area()), by_list(BY_LIST, &usual_area())];
+    let mut cases: Vec<Case> = bases.map(|case| case.finds(USUAL.len())).into();
     cases.extend(Shape::ALL.into_iter().flat_map(|shape| LENGTHS.into_iter().flat_map(move |len| grown(shape, len))));
     cases.extend(PARTS.map(|count| {
         let parts = if count == 1 { "part" } else { "parts" };

@@ -59,9 +59,14 @@ pub fn usual_area() -> Vec<u8> {
     [usual_options(84), vec![255]].concat()
 }
 
+/// A message with this area.
+pub fn message_of(area: &[u8]) -> Vec<u8> {
+    [&header(), area].concat()
+}
+
 /// The message of the twelve options: 325 bytes.
 pub fn usual_message() -> Vec<u8> {
-    [header(), usual_area()].concat()
+    message_of(&usual_area())
 }
 
 /// Parts of one code, all of 255 bytes but the last.
@@ -89,6 +94,10 @@ pub fn message_in_parts(count: usize) -> Vec<u8> {
 pub fn area_in_parts(count: usize) -> Vec<u8> {
     [parts(count, PART), vec![255]].concat()
 }
+
+/// Two options of a byte each, and two that are empty.
+const ONE_BYTE: [u8; 6] = [100, 1, 7, 101, 1, 8];
+const EMPTY: [u8; 4] = [100, 0, 101, 0];
 
 /// What an area is full of.
 #[derive(Clone, Copy)]
@@ -125,12 +134,21 @@ impl Shape {
         }
     }
 
+    /// How many options an area of so many bytes has, where they have a byte of value or none.
+    pub fn short_options(self, len: usize) -> Option<usize> {
+        match self {
+            Shape::OneByte => Some(2 * (len / ONE_BYTE.len())),
+            Shape::Empty => Some(2 * (len / EMPTY.len())),
+            _ => None,
+        }
+    }
+
     /// An area of so many bytes: the shape again and again, and Pads behind it where it does not fill the area.
     pub fn area(self, len: usize) -> Vec<u8> {
         let unit = match self {
             Shape::Usual => usual_options(len),
-            Shape::OneByte => vec![100, 1, 7, 101, 1, 8],
-            Shape::Empty => vec![100, 0, 101, 0],
+            Shape::OneByte => ONE_BYTE.into(),
+            Shape::Empty => EMPTY.into(),
             Shape::EmptyParts | Shape::EmptyPartsCut => vec![100, 0],
             Shape::Pads => vec![0],
             Shape::Joined => filled_with_parts(len),
@@ -169,6 +187,14 @@ mod tests {
             let whole =
                 |shape: Shape| matches!(find(&shape.area(len), 0), Found::Option { parts, .. } if parts >= len / 257);
             assert!(whole(Shape::EmptyParts) && whole(Shape::Joined));
+            for shape in [Shape::OneByte, Shape::Empty] {
+                let area = shape.area(len);
+                let next = |place: usize| match find(&area, place) {
+                    Found::Option { place, .. } => Some(place),
+                    Found::Stop(..) => None,
+                };
+                assert_eq!(shape.short_options(len), Some(std::iter::successors(next(0), |&at| next(at)).count()));
+            }
         }
     }
 }

@@ -1,4 +1,5 @@
-//! How fast the library and the crate are: the same inputs through both, in one process, answers compared first.
+//! How fast the library and the crate are, beside hand-written C as the limit: the same inputs through all, in one process, answers
+//! compared first.
 //! `walk`, `real`, `typed`, `texts`, `header`, `writing` and `growth` have the cases; `clock` and `count` measure them.
 
 pub mod arguments;
@@ -8,6 +9,8 @@ mod count;
 mod growth;
 mod header;
 mod inputs;
+#[cfg(limit)]
+mod limit;
 mod machine;
 pub mod measuring;
 mod page;
