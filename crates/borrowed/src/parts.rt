@@ -3,6 +3,7 @@ ghost use Prim.Native.Nat.{_≤_};
 ghost use mathlib.Core.Path.{_≡_};
 ghost use lib.ListN.{length, drop};
 ghost use Rattle.facts.specs.Over.{over};
+ghost use Rattle.rfc.specs.Numbers.{mostBytes};
 ghost use Rattle.rfc.specs.Walk.{further, look};
 ghost use Rattle.borrowed.specs.Walked.{sizes, Stepped, Continues, sizeOf, PartsTo, valuesAt};
 use crate::answer::Step;
@@ -65,7 +66,7 @@ pub(crate) fn several(area: &[u8], at: usize, join: &mut [u8]) -> Step
 // The further parts of `code` from `at` on. An empty part is passed by a branch of its own: the processor guesses the branch and goes on to
 // the next part, where a sum would wait for the length to be loaded.
 fn scan(area: &[u8], at: usize, code: u8) -> Run
-    requires { ⌜ at ≤ length (now area) ⌝ }
+    requires { ⌜ (length (now area) ≤ mostBytes) × (at ≤ length (now area)) ⌝ }
     ensures { λ r. ⌜ r ≡ sizeOf (further code (drop at (now (area .entry)))) ⌝ }
 {
     let mut i = at;
@@ -75,17 +76,17 @@ fn scan(area: &[u8], at: usize, code: u8) -> Run
         if area[i] != code {
             return Run::Whole { parts, len };
         }
-        if area.len() - i < 2 {
+        if i + 1 >= area.len() {
             return Run::Cut;
         }
         let n = area[i + 1] as usize;
         i += 2;
         parts += 1;
         if n != 0 {
-            if n > area.len() - i {
+            i += n;
+            if i > area.len() {
                 return Run::Cut;
             }
-            i += n;
             len += n;
         }
     }

@@ -3,7 +3,7 @@
 use Prim.Native.Nat.{_≤_, _-_, _+_, _*_}
 use mathlib.Core.Path.{_≡_, sym, _∙_}
 use native.Mathlib.Omega.{arith}
-use lib.ListN.{length, drop}
+use lib.ListN.{length, drop, getD}
 use Rattle.rfc.specs.Walk.{further}
 use Rattle.rfc.proofs.Places.{further-none-at, further-other-at, further-no-length-at, further-no-value-at}
 use Rattle.borrowed.specs.Walked.{sizeOf}
@@ -28,16 +28,18 @@ returns c =
 returns-2 : tie.Need-returns-2 Inv-loop μ-loop
 returns-2 c =
     let l = c .before .before .before .before .loop in
-    grow-cut _ _ _ (further-no-length-at _ (l .i) _ (omega arith) (c .before .if1 .left) (c .if2 .taken)) ∙ sym (l .inv .2)
+    grow-cut _ _ _ (further-no-length-at _ (l .i) _ (omega arith) (c .before .if1 .left) (omega arith)) ∙ sym (l .inv .2)
 
-cast-n : tie.Need-cast-n Inv-loop μ-loop
-cast-n c = omega (arith, c .shared-slice-known2 .given (c .before .before .before .before .before .loop .i + 1))
+-- a length is a byte
+small : (c : tie.After-shared-slice-known2 Inv-loop μ-loop) → let l = c .before .before .before .before .before in
+    getD (l .before .args .area .now) (l .loop .i + 1) 0 ≤ 255
+small c = omega (arith, c .shared-slice-known2 .given (c .before .before .before .before .before .loop .i + 1))
 
 returns-3 : tie.Need-returns-3 Inv-loop μ-loop
 returns-3 c =
     let test = c .before .before .before .before in
     let l = test .before .before .before .loop in
-    grow-cut _ _ _ (further-no-value-at _ (l .i) _ (omega arith) (test .if1 .left) (c .if4 .taken)) ∙ sym (l .inv .2)
+    grow-cut _ _ _ (further-no-value-at _ (l .i) _ (omega arith) (test .if1 .left) (omega arith)) ∙ sym (l .inv .2)
 
 loop-again : tie.Need-loop-again Inv-loop μ-loop
 loop-again c =
@@ -69,12 +71,11 @@ scan-spec =
     returns-2
     (λ c. omega arith)
     (λ c. omega arith)
-    cast-n
+    (λ c. omega (arith, small c))
     (λ c. omega arith)
     (λ c. omega arith)
-    (λ c. omega arith)
+    (λ c. omega (arith, small (c .before)))
     returns-3
-    (λ c. omega arith)
     (λ c. omega arith)
     (λ c. omega arith)
     loop-again
