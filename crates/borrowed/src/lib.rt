@@ -86,21 +86,16 @@ pub fn first(area: &[u8], place: usize) -> First
         return First::Other;
     }
     let to = place + 2 + len;
-    if to >= size {
-        return First::Alone {
-            code,
-            len,
-            place: to,
-        };
+    if to < size {
+        if area[to] == code {
+            return First::Several;
+        }
     }
-    if area[to] != code {
-        return First::Alone {
-            code,
-            len,
-            place: to,
-        };
+    First::Alone {
+        code,
+        len,
+        place: to,
     }
-    First::Several
 }
 
 // How a call at `place` begins: two checks, then what stands behind the Pads.

@@ -40,17 +40,17 @@ returns-6 c =
     (cut-value-at _ _ (omega arith) other (c .before .before .if5 .left) (omega arith) (omega arith)))
 
 returns-7 : tie.Need-returns-7
-returns-7 c =
-    let s = starts (c .before) in
-    first-told _ _ (omega arith) (s .other) (starts-alone s (further-none-at _ _ _ (c .if7 .taken)))
+returns-7 c = first-several _ _ (record { starts = starts (c .before .before .before); inside = c .before .before .if7 .taken; same = c .if8 .taken })
 
 returns-8 : tie.Need-returns-8
 returns-8 c =
     let s = starts (c .before .before .before) in
-    first-told _ _ (omega arith) (s .other) (starts-alone s (further-other-at _ _ _ (c .before .before .if7 .left) (c .if8 .taken)))
+    first-told _ _ (omega arith) (s .other) (starts-alone s (further-other-at _ _ _ (c .before .before .if7 .taken) (c .if8 .left)))
 
 returns-9 : tie.Need-returns-9
-returns-9 c = first-several _ _ (record { starts = starts (c .before .before .before); inside = c .before .before .if7 .left; same = c .if8 .left })
+returns-9 c =
+    let s = starts (c .before) in
+    first-told _ _ (omega arith) (s .other) (starts-alone s (further-none-at _ _ _ (c .if7 .left)))
 
 pub first-spec : {M : Type 1} → statement M
 first-spec =
@@ -69,7 +69,7 @@ first-spec =
     returns-6
     (λ c. search needs)
     (λ c. search needs)
-    returns-7
     (λ c. search needs)
+    returns-7
     returns-8
     returns-9)
