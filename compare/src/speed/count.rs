@@ -113,7 +113,8 @@ mod tests {
     fn a_command_that_does_not_count_is_said() {
         assert!(counted("echo hello").is_err_and(|sentence| sentence.contains("its last word is `hello`")));
         let case = Case::new("name", 1, Nothing, Nothing);
-        let missing = Counter::new("nobody", "no-such-command --at all").count(Path::new("x"), &case, Who::Library, &[]);
+        let missing =
+            Counter::new("nobody", "no-such-command --at all").count(Path::new("x"), &case, Who::Library, &[]);
         assert!(missing.is_err_and(|sentence| sentence.starts_with("no-such-command ")));
     }
 
