@@ -37,7 +37,7 @@ impl Counter {
     pub fn chosen(emulated: bool) -> Result<Counter, String> {
         match env::var(VARIABLE) {
             Ok(command) => Ok(Counter::new("the command that COUNTER names", &command)),
-            Err(_) if emulated => Ok(Counter::new("QEMU, which emulates, with compare/counter in it", &emulator()?)),
+            Err(_) if emulated => emulator(),
             Err(_) => Ok(Counter::new("valgrind's callgrind", VALGRIND)),
         }
     }
@@ -68,11 +68,13 @@ impl Counter {
     }
 }
 
-/// The emulator with our counter in it, where that was built.
-fn emulator() -> Result<String, String> {
+/// The emulator with our counter in it, where that was built. The counter's path is one word, whatever stands in it.
+fn emulator() -> Result<Counter, String> {
     let runner = env::var(RUNNER).unwrap_or(EMULATOR.into());
     let plugin = option_env!("COUNTER_PLUGIN").ok_or(option_env!("NO_COUNTER").unwrap_or("no counter was built"))?;
-    Ok(format!("{runner} -plugin {plugin}"))
+    let mut counter = Counter::new("QEMU, which emulates, with compare/counter in it", &runner);
+    counter.words.extend(["-plugin", plugin].map(String::from));
+    Ok(counter)
 }
 
 /// The number behind the last mark in a text.

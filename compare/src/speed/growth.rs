@@ -12,7 +12,7 @@ use std::hint::black_box;
 const BY_STEP: &str = "12 options, 85 bytes, by step";
 const BY_LIST: &str = "12 options, 85 bytes, by list";
 
-/// The most that a byte of the largest area may cost, against a byte of the twelve options; of short options an option, against one of the
+/// The most that a byte of the largest area may cost, against a byte of the twelve options; of empty options an option, against one of the
 /// twelve.
 const MOST_GROWTH: f64 = 3.0;
 
@@ -76,11 +76,11 @@ fn by_list(name: impl Into<String>, area: &[u8]) -> Case {
     Case::new(name, area.len(), list, CrateList(area.to_vec())).grown_from(BY_LIST, Unit::Byte)
 }
 
-/// A shape at a length, by step and by list. Short options cost what options cost, so they are counted by option.
+/// A shape at a length, by step and by list. Empty options cost what options cost, so they are counted by option.
 fn grown(shape: Shape, len: usize) -> [Case; 2] {
     let (name, area) = (format!("{}, {len} bytes", shape.name()), shape.area(len));
     let mut cases = [by_steps(format!("{name}, by step"), &area), by_list(format!("{name}, by list"), &area)];
-    if let Some(options) = shape.short_options(len) {
+    if let Some(options) = shape.empty_options(len) {
         let [steps, list] = cases;
         cases = [steps.grown_from(BY_STEP, Unit::Option), list.grown_from(BY_LIST, Unit::Option)];
         cases = cases.map(|case| case.finds(options));

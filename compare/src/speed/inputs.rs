@@ -95,8 +95,7 @@ pub fn area_in_parts(count: usize) -> Vec<u8> {
     [parts(count, PART), vec![255]].concat()
 }
 
-/// Two options of a byte each, and two that are empty.
-const ONE_BYTE: [u8; 6] = [100, 1, 7, 101, 1, 8];
+/// Two options that are empty.
 const EMPTY: [u8; 4] = [100, 0, 101, 0];
 
 /// What an area is full of.
@@ -134,20 +133,16 @@ impl Shape {
         }
     }
 
-    /// How many options an area of so many bytes has, where they have a byte of value or none.
-    pub fn short_options(self, len: usize) -> Option<usize> {
-        match self {
-            Shape::OneByte => Some(2 * (len / ONE_BYTE.len())),
-            Shape::Empty => Some(2 * (len / EMPTY.len())),
-            _ => None,
-        }
+    /// How many options an area of so many bytes has, where they are empty.
+    pub fn empty_options(self, len: usize) -> Option<usize> {
+        matches!(self, Shape::Empty).then_some(2 * (len / EMPTY.len()))
     }
 
     /// An area of so many bytes: the shape again and again, and Pads behind it where it does not fill the area.
     pub fn area(self, len: usize) -> Vec<u8> {
         let unit = match self {
             Shape::Usual => usual_options(len),
-            Shape::OneByte => ONE_BYTE.into(),
+            Shape::OneByte => vec![100, 1, 7, 101, 1, 8],
             Shape::Empty => EMPTY.into(),
             Shape::EmptyParts | Shape::EmptyPartsCut => vec![100, 0],
             Shape::Pads => vec![0],
@@ -187,14 +182,13 @@ mod tests {
             let whole =
                 |shape: Shape| matches!(find(&shape.area(len), 0), Found::Option { parts, .. } if parts >= len / 257);
             assert!(whole(Shape::EmptyParts) && whole(Shape::Joined));
-            for shape in [Shape::OneByte, Shape::Empty] {
-                let area = shape.area(len);
-                let next = |place: usize| match find(&area, place) {
-                    Found::Option { place, .. } => Some(place),
-                    Found::Stop(..) => None,
-                };
-                assert_eq!(shape.short_options(len), Some(std::iter::successors(next(0), |&at| next(at)).count()));
-            }
+            let area = Shape::Empty.area(len);
+            let next = |place: usize| match find(&area, place) {
+                Found::Option { place, .. } => Some(place),
+                Found::Stop(..) => None,
+            };
+            assert_eq!(Shape::Empty.empty_options(len), Some(std::iter::successors(next(0), |&at| next(at)).count()));
+            assert_eq!(Shape::OneByte.empty_options(len), None);
         }
     }
 }

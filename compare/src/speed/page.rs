@@ -61,8 +61,8 @@ const GROWTH: &str = "\
 
 Areas of 64 to 65,535 bytes, each full of one thing, walked from the begin to the first stop: by a call of `step` for each option, or by
 one call of `list` with rows that are then read. The numbers are the library's, a unit of the area; the ratio is that cost against the
-cost a unit of the area of the twelve options, walked the same way. The unit is a byte; of options of a byte or none, which cost what
-options cost and are shorter, it is an option. These options are of two codes in turn, \"empty parts\" are one option of very many parts,
+cost a unit of the area of the twelve options, walked the same way. The unit is a byte; of empty options, which cost what options cost
+and are shorter, it is an option. These, and options of one byte, are of two codes in turn, \"empty parts\" are one option of very many parts,
 \"cut\" is the same with a last part that is not whole, and \"parts of 255\" are one option that `step` joins. The crate stands beside it
 for who wants to know; there is no target between them here.
 ";

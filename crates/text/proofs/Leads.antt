@@ -1,7 +1,7 @@
 -- What first bytes ask for that the code tests together: those of three that leave out no byte of UTF8-tail, and all of four.
 -- Assumes nothing.
 use mathlib.Core.Path.{_≡_}
-use mathlib.Core.Bool.{true, false}
+use mathlib.Core.Bool.{false}
 use mathlib.Core.List.{List, [], _∷_}
 use mathlib.Core.Option.{some}
 use Prim.Native.Nat.{ℕ, _+_, _≤_, _<_}
@@ -10,7 +10,7 @@ use native.Mathlib.Omega.{arith}
 use lib.ListN.{length, getD}
 use Rattle.facts.specs.Ranges.{within}
 use Rattle.facts.proofs.Ranges.{inside, above, below}
-use Rattle.rfc.specs.Text.{Range, range, tail, lead}
+use Rattle.rfc.specs.Text.{range, tail, lead}
 use Rattle.rfc.proofs.Text.{lead-e1-ec, lead-ee-ef, lead-f0, lead-f1-f3, lead-f4, lead-f5-on, Reached, begun, followed, not-followed}
 use Rattle.text.specs.Width.{Four, Width}
 use Rattle.text.proofs.Widths.{nothing, none-there, cut}

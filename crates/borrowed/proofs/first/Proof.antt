@@ -1,7 +1,6 @@
 -- `first` meets its contract: a law of the first look for each return.
 -- Assumes nothing.
 use Prim.Native.Nat.{_+_}
-use mathlib.Core.Path.{refl}
 use native.Mathlib.Omega.{arith}
 use borrow.Author.Needs.{needs}
 use Rattle.rfc.proofs.Walk.{look-2}

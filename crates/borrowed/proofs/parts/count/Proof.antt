@@ -1,6 +1,5 @@
 -- `count` meets its contract: one of the further parts is cut, or all are whole.
 -- Assumes nothing.
-use Prim.Native.Nat.{_+_}
 use mathlib.Core.Path.{_≡_, sym, _∙_}
 use native.Mathlib.Omega.{arith}
 use borrow.Author.Needs.{needs}
