@@ -1,5 +1,7 @@
 // Options written into a lent room at a place, as the crate's `encode_long_opt_bytes` writes them: parts of 255 bytes, each with its
-// code and its length before it.
+// code and its length before it. `rows` writes many in one call.
+pub mod rows;
+
 ghost use mathlib.Core.Path.{_≡_};
 ghost use mathlib.Core.List.{_∷_};
 ghost use Prim.Native.Nat.{_+_, _≤_, min};
@@ -90,7 +92,7 @@ fn write_part(room: &mut [u8], place: usize, code: u8, value: &[u8]) -> Written
 }
 
 // Writes all parts of `value`.
-fn put_parts(room: &mut [u8], place: usize, code: u8, value: &[u8])
+pub(crate) fn put_parts(room: &mut [u8], place: usize, code: u8, value: &[u8])
     requires { ⌜ place + length (encode mostPart code (now value)) ≤ length (now room) ⌝ }
     ensures { λ _. ⌜ now (room .exit) ≡ over (now (room .entry)) place (encode mostPart code (now (value .entry))) ⌝ }
 {
@@ -112,7 +114,7 @@ fn next_piece(left: usize) -> usize
 }
 
 // Writes one part: the code, the length, the `n` bytes of `value` from `from` on.
-fn put_part(room: &mut [u8], at: usize, code: u8, value: &[u8], from: usize, n: usize)
+pub(crate) fn put_part(room: &mut [u8], at: usize, code: u8, value: &[u8], from: usize, n: usize)
     requires { ⌜ (at + (2 + n) ≤ length (now room)) × (from + n ≤ length (now value)) × (n ≤ mostPart) ⌝ }
     ensures { λ _. ⌜ now (room .exit) ≡ over (now (room .entry)) at (code ∷ n ∷ take n (drop from (now (value .entry)))) ⌝ }
 {

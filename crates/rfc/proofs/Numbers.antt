@@ -43,6 +43,10 @@ pub clear-last : (cs : List Check) (test : Bool) (n : ℕ) → Clear (cs ++ chec
 clear-last [] test n (next e c) = e
 clear-last (check t k ∷ cs) test n (next e c) = clear-last cs test n c
 
+pub clear-front : (cs ds : List Check) → Clear (cs ++ ds) → Clear cs
+clear-front [] ds c = done
+clear-front (check t k ∷ cs) ds (next e c) = next e (clear-front cs ds c)
+
 -- what is given is no refusal by a number, and neither is 5
 pub given-no : {A : Type 0} (a : A) (k : ℕ) → given a ≡ refused k → ⊥
 given-no a k e = let z : _≡_ {A = ℕ} 0 1 = cc in omega arith

@@ -5,15 +5,17 @@ use Prim.Native.Nat.{ℕ, _+_, _-_, _*_, _/_, _≤_, _<_, min}
 use native.Mathlib.Omega.{arith}
 use mathlib.Core.List.{List, [], _∷_, _++_, flatten, append-nil}
 use lib.ListN.{length, take, drop, length-append, length-take, drop-of-length-le}
+use lib.Dec.{ltb}
 use lib.Seq.{take-all}
 use Rattle.facts.specs.Over.{over}
 use Rattle.facts.specs.Pieces.{pieces}
+use Rattle.facts.proofs.Over.{length-over}
 use Rattle.facts.proofs.Least.{take-least, drop-least}
 use Rattle.facts.proofs.Pieces.{pieces-none, pieces-more, flatten-pieces, count-pieces}
-use Rattle.rfc.specs.Numbers.{Answer, given, refused, mostBytes, mostValue, mostPart, padCode, endCode, tooLong, pastEnd, noRoom, Check, check}
+use Rattle.rfc.specs.Numbers.{Answer, given, refused, mostBytes, mostValue, mostPart, padCode, endCode, tooLong, pastEnd, noRoom, Check, check, checked}
 use Rattle.rfc.specs.Writing.{partsOf, encode, Write, writeChecks, answerTo, roomLeft, roomAfter, writeSlice, intoRoom, writeBytes, close}
 use Rattle.rfc.proofs.Alike.{clear-slice}
-use Rattle.rfc.proofs.Numbers.{Refuses, here, later, refuses, Clear, done, next, clears, passes, clear-last, given-no, long, not-long, past, not-past, pad-code, end-code, a-code, much, not-much, full, not-full, room-left}
+use Rattle.rfc.proofs.Numbers.{Refuses, here, later, refuses, Clear, done, next, clears, passes, refuses-front, refuses-behind, clear-both, clear-front, clear-last, given-no, long, not-long, past, not-past, pad-code, end-code, a-code, much, not-much, full, not-full, room-left}
 
 -- two bytes for each part
 pub length-parts : (code : ℕ) (ps : List (List ℕ)) → length (partsOf code ps) ≡ 2 * length ps + length (flatten ps)
@@ -85,17 +87,46 @@ module _ (w : Write) (room : List ℕ) (place : ℕ) where
   unfolding roomAfter roomLeft
   given-left to e = ap (λ (a : Answer ℕ). roomLeft a room place (w .bytes)) e
 
-  pub given-to : (to : ℕ) → answerTo w room place ≡ given to → to ≡ place + length (w .bytes)
+  -- its own checks decide first, and then the room's end
+  pub checks-refuse : {k : ℕ} → Refuses (w .checks) k → answerTo w room place ≡ refused k
+  unfolding writeChecks
+  checks-refuse r = write-refused (refuses-front _ r)
+
+  pub clear-8 : Clear (w .checks) → length room < place + length (w .bytes) → answerTo w room place ≡ refused 8
+  unfolding writeChecks
+  clear-8 c h = write-refused (refuses-behind c (here (full room place (w .bytes) h)))
+
+  pub clear-given : Clear (w .checks) → place + length (w .bytes) ≤ length room → answerTo w room place ≡ given (place + length (w .bytes))
+  unfolding writeChecks
+  clear-given c h = write-given (clear-both c (next (not-full room place (w .bytes) h) done))
+
+  -- where something is given, no check held
+  given-passed : (to : ℕ) → answerTo w room place ≡ given to → Clear (writeChecks w room place) × (to ≡ place + length (w .bytes))
   unfolding answerTo
-  given-to to e =
-      let r = passes (writeChecks w room place) (given (place + length (w .bytes))) (given to) (given-no to) e .1 in
-      cc
+  given-passed to e =
+      let r = passes (writeChecks w room place) (given (place + length (w .bytes))) (given to) (given-no to) e in
+      let n = r .1 in
+      (r .0, cc)
+
+  pub given-clear : (to : ℕ) → answerTo w room place ≡ given to → Clear (w .checks)
+  unfolding writeChecks
+  given-clear to e = clear-front (w .checks) _ (given-passed to e .0)
+
+  pub given-to : (to : ℕ) → answerTo w room place ≡ given to → to ≡ place + length (w .bytes)
+  given-to to e = given-passed to e .1
 
   pub given-fits : (to : ℕ) → answerTo w room place ≡ given to → place + length (w .bytes) ≤ length room
-  unfolding answerTo writeChecks
-  given-fits to e =
-      let c = passes (writeChecks w room place) (given (place + length (w .bytes))) (given to) (given-no to) e .0 in
-      room-left room place (w .bytes) (clear-last (w .checks) (noRoom room place (w .bytes)) 8 c)
+  unfolding writeChecks
+  given-fits to e = room-left room place (w .bytes) (clear-last (w .checks) (noRoom room place (w .bytes)) 8 (given-passed to e .0))
+
+  pub given-keeps : (to : ℕ) → answerTo w room place ≡ given to → length (roomAfter w room place) ≡ length room
+  given-keeps to e = ap length (given-left to e) ∙ length-over room place (w .bytes) (given-fits to e)
+
+  -- of a room only its length decides
+  pub same-answer : (other : List ℕ) → length room ≡ length other → answerTo w room place ≡ answerTo w other place
+  unfolding answerTo writeChecks noRoom
+  same-answer other e =
+      ap (λ (n : ℕ). checked (w .checks ++ check (ltb n (place + length (w .bytes))) 8 ∷ []) (given (place + length (w .bytes)))) e
 
 -- some bytes as they stand
 module _ (bytes room : List ℕ) (place : ℕ) where

@@ -1,7 +1,5 @@
 pub mod Rows
 pub mod Filling
-pub mod PutRow
-pub mod PutRows
-pub mod PutList
+pub mod Wrote
 pub mod Unique
 pub mod UniqueWriting
