@@ -18,11 +18,7 @@ use Rattle.rfc.specs.Routes.{Route, routesCode, mostWidth, significant, 
 use Rattle.rfc.proofs.Numbers.{here, later, done, next, long, not-long, past, much, not-much, full, not-full}
 use Rattle.rfc.proofs.Writing.{write-refused, write-given, given-left, room-behind, room-clear}
 
-pub significant-is : (width : ℕ) → significant width ≡ (width + 7) / 8
-unfolding significant
-significant-is width = refl
-
--- they have as many bits as the width, and no fewer bytes have
+-- the significant bytes have as many bits as the width, and no fewer bytes have
 pub significant-covers : (width : ℕ) → width ≤ 8 * significant width
 unfolding significant
 significant-covers width = omega arith
@@ -30,6 +26,10 @@ significant-covers width = omega arith
 pub significant-least : (width n : ℕ) → width ≤ 8 * n → significant width ≤ n
 unfolding significant
 significant-least width n h = omega arith
+
+pub significant-is : (width : ℕ) → significant width ≡ (width + 7) / 8
+unfolding significant
+significant-is width = refl
 
 -- an address has four bytes, so that no more are taken
 pub route-is : (r : Route) (n : ℕ) → n ≡ min 4 (significant (r .width))
