@@ -1,5 +1,5 @@
--- What the walk finds, by the bytes that it goes over: the parts at the front of a list lie within it, and an option is the parts of its
--- code from a place on.
+-- What the walk finds, by the bytes that it goes over: the parts at the front of a list lie within it, a stop has its reason at a place,
+-- and an option is the parts of its code from a place on.
 -- Assumes nothing.
 use mathlib.Core.Path.{_≡_, refl, sym, ap, _∙_, subst}
 use Prim.Native.Nat.{ℕ, suc, zero, _+_, _*_, _≤_, _<_}
@@ -10,9 +10,10 @@ use mathlib.Core.Bool.{Bool, true, false, cond}
 use lib.ListN.{length, take, drop, length-take, length-drop, length-append}
 use lib.Seq.{length-take-le}
 use lib.Dec.{eqb, leb}
-use borrow.Author.Tests.{leb-true}
+use native.Mathlib.Decide.{decLe, ℕ-discrete}
+use borrow.Author.Tests.{eq-eqb, ne-eqb, le-leb, lt-leb}
 use Rattle.rfc.specs.Numbers.{padCode, endCode}
-use Rattle.rfc.specs.Walk.{Run, cut, run, extend, furtherIn, further, joined, behind, walk, Found, stop, option, end, cutValue}
+use Rattle.rfc.specs.Walk.{Stop, out, end, cutLength, cutValue, cutContinuation, Found, stop, option, Run, cut, run, extend, furtherIn, further, joined, behind, walk}
 use Rattle.rfc.specs.Lists.{Bytes}
 use Rattle.rfc.proofs.Walk.{extend-run, further-more}
 
@@ -57,20 +58,34 @@ pub lies : (code : ℕ) (rest : List ℕ) (n : ℕ) (vs : List ℕ) → further 
 unfolding further
 lies code rest n vs e = subst (Lies rest) e (lies-in (length rest) code rest)
 
--- what the walk finds from the place `at` on: an End is a byte or more behind it, and an option is the parts of its code from a place on
+-- why the walk stops, by the bytes where it does, and how many of them are before the place behind the stop (document 01)
+pub data Halts : Stop → List ℕ → ℕ → Type 0 where
+  -- no byte is left
+  none-left : Halts out [] 0
+  -- an End
+  at-end : {rest : List ℕ} → Halts end (endCode ∷ rest) 1
+  -- a code, and no length byte
+  no-length : {code : ℕ} → Halts cutLength (code ∷ []) 1
+  -- a length beyond what is left
+  no-value : {code n : ℕ} {rest : List ℕ} → length rest < n → Halts cutValue (code ∷ n ∷ rest) 2
+  -- a complete part, and behind it one that is cut
+  no-further : {code n : ℕ} {rest : List ℕ} → n ≤ length rest → further code (drop n rest) ≡ cut
+      → Halts cutContinuation (code ∷ n ∷ rest) (2 + n)
+
+-- what the walk finds from the place `at` on: a stop has its reason at a place, and an option is the parts of its code from a place on
 abbrev pub Finds : ℕ → List ℕ → Found → Type 0
-Finds at rest (stop s p) = s ≡ end → at < p
+Finds at rest (stop s p) = (skip taken : ℕ) × (skip ≤ length rest) × (at + skip + taken ≡ p) × Halts s (drop skip rest) taken
 Finds at rest (option code v n p) =
     (skip : ℕ) × (skip ≤ length rest) × (1 ≤ n) × (at + skip + (2 * n + length v) ≡ p) × (further code (drop skip rest) ≡ run n v)
 
 finds-later : (at b : ℕ) (rest : List ℕ) (f : Found) → Finds (at + 1) rest f → Finds at (b ∷ rest) f
-finds-later at b rest (stop s p) h = λ e. let k = h e in omega arith
+finds-later at b rest (stop s p) (skip, taken, inside, ends, why) = (suc skip, taken, omega arith, omega arith, why)
 finds-later at b rest (option code v n p) (skip, inside, some, ends, parts) = (suc skip, omega arith, some, omega arith, parts)
 
 finds-joined : (at code n : ℕ) (rest : List ℕ) (r : Run) → n ≤ length rest → further code (drop n rest) ≡ r
     → Finds at (code ∷ n ∷ rest) (joined code (take n rest) (at + 1 + 1 + n) r)
 unfolding joined
-finds-joined at code n rest cut h e = λ f. let z : _≡_ {A = ℕ} 0 1 = cc in omega arith
+finds-joined at code n rest cut h e = (0, 2 + n, omega arith, omega arith, no-further h e)
 finds-joined at code n rest (run m vs) h e =
     let first : List ℕ = take n rest in (
       0,
@@ -81,22 +96,23 @@ finds-joined at code n rest (run m vs) h e =
           ∙ ap (λ (k : ℕ). run k (first ++ vs)) (sym (add-one m)),
     )
 
-pub finds : (at : ℕ) (rest : List ℕ) → Finds at rest (walk at rest)
-unfolding walk behind
-finds at [] = λ e. let z : _≡_ {A = ℕ} 0 1 = cc in omega arith
-finds at (b ∷ rest) = go (eqb b padCode) (eqb b endCode) (finds (at + 1) rest)
+finds-behind : (at code : ℕ) (rest : List ℕ) → Finds at (code ∷ rest) (behind code (at + 1) rest)
+unfolding behind
+finds-behind at code [] = (0, 1, omega arith, omega arith, no-length)
+finds-behind at code (n ∷ rest) = go (decLe n (length rest))
   where
-    part : (l : List ℕ) → Finds at (b ∷ l) (behind b (at + 1) l)
-    part [] = λ e. let z : _≡_ {A = ℕ} 0 1 = cc in omega arith
-    part (n ∷ l) = by (leb n (length l)) refl
-      where
-        by : (t : Bool) → leb n (length l) ≡ t
-            → Finds at (b ∷ n ∷ l) (cond t (joined b (take n l) (at + 1 + 1 + n) (further b (drop n l))) (stop cutValue (at + 1 + 1)))
-        by true e = finds-joined at b n l (further b (drop n l)) (leb-true n (length l) e) refl
-        by false e = λ f. omega arith
+    go : Dec (n ≤ length rest) → Finds at (code ∷ n ∷ rest) (behind code (at + 1) (n ∷ rest))
+    go (yes h) = rw (le-leb n (length rest) h) (finds-joined at code n rest (further code (drop n rest)) h refl)
+    go (no h) =
+        let short : length rest < n = omega arith in
+        rw (lt-leb n (length rest) short) (0, 2, omega arith, omega arith, no-value short)
 
-    go : (t u : Bool) → Finds (at + 1) rest (walk (at + 1) rest)
-        → Finds at (b ∷ rest) (cond t (walk (at + 1) rest) (cond u (stop end (at + 1)) (behind b (at + 1) rest)))
-    go true u later = finds-later at b rest (walk (at + 1) rest) later
-    go false true later = λ e. omega arith
-    go false false later = part rest
+pub finds : (at : ℕ) (rest : List ℕ) → Finds at rest (walk at rest)
+unfolding walk
+finds at [] = (0, 0, omega arith, omega arith, none-left)
+finds at (b ∷ rest) = go (ℕ-discrete b padCode) (ℕ-discrete b endCode) (finds (at + 1) rest)
+  where
+    go : Dec (b ≡ padCode) → Dec (b ≡ endCode) → Finds (at + 1) rest (walk (at + 1) rest) → Finds at (b ∷ rest) (walk at (b ∷ rest))
+    go (yes z) _ later = rw (eq-eqb b padCode z) (finds-later at b rest (walk (at + 1) rest) later)
+    go (no z) (yes e) _ = rw (ne-eqb b padCode z, eq-eqb b endCode e, e) (0, 1, omega arith, omega arith, at-end)
+    go (no z) (no e) _ = rw (ne-eqb b padCode z, ne-eqb b endCode e) (finds-behind at b rest)

@@ -1,5 +1,5 @@
--- The laws of `Walk.antt` at a place of an area: what the tests of code at an index say of the walk from there, and that an option which
--- the walk finds stands in the area.
+-- The laws of `Walk.antt` at a place of an area: what the tests of code at an index say of the walk from there, and that a stop or an
+-- option which the walk finds stands in the area.
 -- Assumes nothing.
 use mathlib.Core.Path.{_≡_, refl, sym, ap, _∙_, subst}
 use Prim.Native.Nat.{ℕ, suc, _+_, _-_, _*_, _≤_, _<_}
@@ -10,9 +10,9 @@ use lib.ListN.{length, take, drop, getD, length-drop, length-append, drop-of-len
 use lib.Seq.{drop-cons, drop-drop, take-append-seam, drop-append-seam, length-take-le, take-length}
 use native.Mathlib.Decide.{decLe, decLt, ℕ-discrete}
 use Rattle.rfc.specs.Numbers.{given, padCode, endCode}
-use Rattle.rfc.specs.Walk.{Run, cut, run, extend, further, joined, walk, look, stop, option, out, end, cutLength, cutValue}
+use Rattle.rfc.specs.Walk.{Stop, out, end, cutLength, cutValue, stop, option, Run, cut, run, extend, further, joined, walk, look}
 use Rattle.rfc.specs.Lists.{Bytes}
-use Rattle.rfc.proofs.Finding.{bytes-drop, lies, Finds, finds}
+use Rattle.rfc.proofs.Finding.{bytes-drop, lies, Halts, at-end, Finds, finds}
 use Rattle.rfc.proofs.Walk.{look-walked, further-none, further-other, further-no-length, further-no-value, further-more, walk-out, walk-pad, walk-end, walk-code, behind-none, behind-short, behind-whole}
 
 module _ (area : List ℕ) (i : ℕ) where
@@ -173,8 +173,22 @@ pub record Stands (area : List ℕ) (code : ℕ) (v : List ℕ) (n at : ℕ) : T
   pub one : n ≡ 1 → v ≡ take (length v) (drop (at - length v) area)
 
 module _ (area : List ℕ) (place at : ℕ) where
+  -- a stop that the walk finds stands in the area: its reason is so many bytes before the place behind it
+  pub walk-halts : (s : Stop) → walk place (drop place area) ≡ stop s at
+      → (taken : ℕ) × (place + taken ≤ at) × Halts s (drop (at - taken) area) taken
+  walk-halts s e =
+      let f = subst (Finds place (drop place area)) e (finds place (drop place area)) in
+      let start : at - f .1 ≡ place + f .0 = omega (arith, f .3) in (
+        f .1,
+        omega (arith, f .3),
+        subst (λ (l : List ℕ). Halts s l (f .1)) (drop-drop (f .0) place area ∙ ap (λ (k : ℕ). drop k area) (sym start)) (f .4),
+      )
+
   pub end-takes : walk place (drop place area) ≡ stop end at → place < at
-  end-takes e = let f = subst (Finds place (drop place area)) e (finds place (drop place area)) in f refl
+  end-takes e = let h = walk-halts end e in omega (arith, h .1, one-byte (h .2))
+    where
+      one-byte : {l : List ℕ} {taken : ℕ} → Halts end l taken → taken ≡ 1
+      one-byte at-end = refl
 
   module _ (code : ℕ) (v : List ℕ) (n : ℕ) (e : walk place (drop place area) ≡ option code v n at) where
     found : Finds place (drop place area) (option code v n at)

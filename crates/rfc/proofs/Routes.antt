@@ -1,11 +1,13 @@
 -- The laws of `specs/Routes.antt`: the bytes of a route and of a table, which widths are too large, and the writer by its checks.
 -- Assumes nothing.
 use mathlib.Core.Path.{_≡_, refl, ap, sym, _∙_}
-use Prim.Native.Nat.{ℕ, _+_, _/_, _≤_, _<_, min}
+use Prim.Native.Nat.{ℕ, _+_, _*_, _/_, _≤_, _<_, min}
 use mathlib.Core.Bool.{true, false}
 use mathlib.Core.List.{List, [], _∷_, _++_}
 use native.Mathlib.Omega.{arith}
-use lib.ListN.{length, take, length-append, length-take}
+use native.Mathlib.Numerals.{add-one}
+use lib.ListN.{length, take, drop, length-append, length-take}
+use lib.Seq.{length-take-le, take-append-seam, drop-append-seam}
 use borrow.Author.Tests.{lt-ltb, le-ltb}
 use Rattle.facts.specs.BigEndian.{digits}
 use Rattle.facts.specs.Over.{over}
@@ -15,6 +17,15 @@ use Rattle.rfc.specs.Writing.{encode, Write, writeChecks, answerTo, room
 use Rattle.rfc.specs.Routes.{Route, routesCode, mostWidth, significant, routeBytes, routesBytes, tooWide, writeRoutes}
 use Rattle.rfc.proofs.Numbers.{here, later, done, next, long, not-long, past, much, not-much, full, not-full}
 use Rattle.rfc.proofs.Writing.{write-refused, write-given, given-left, room-behind, room-clear}
+
+-- the significant bytes have as many bits as the width, and no fewer bytes have
+pub significant-covers : (width : ℕ) → width ≤ 8 * significant width
+unfolding significant
+significant-covers width = omega arith
+
+pub significant-least : (width n : ℕ) → width ≤ 8 * n → significant width ≤ n
+unfolding significant
+significant-least width n h = omega arith
 
 pub significant-is : (width : ℕ) → significant width ≡ (width + 7) / 8
 unfolding significant
@@ -34,6 +45,33 @@ pub length-route : (r : Route) (n : ℕ) → n ≡ min 4 (significant (r .width)
 length-route r n e =
     let to : List ℕ = digits 4 (r .destination) in
     omega (arith, ap length (route-is r n e), length-append (take n to) (digits 4 (r .gateway)), length-take n to)
+
+-- where the parts of a route stand: the width is its first byte; behind it are the significant bytes of the destination, as they stand;
+-- and behind these is the gateway, and nothing else
+module _ (r : Route) (h : r .width ≤ mostWidth) where
+  abbrev many : ℕ
+  many = significant (r .width)
+
+  abbrev to : List ℕ
+  to = take many (digits 4 (r .destination))
+
+  abbrev via : List ℕ
+  via = digits 4 (r .gateway)
+
+  length-to : many ≡ length to
+  length-to = sym (length-take-le many (digits 4 (r .destination)) (significant-least (r .width) 4 h))
+
+  pub route-width : take 1 (routeBytes r) ≡ r .width ∷ []
+  unfolding routeBytes
+  route-width = refl
+
+  pub route-destination : take many (drop 1 (routeBytes r)) ≡ to
+  unfolding routeBytes
+  route-destination = ap (λ (n : ℕ). take n (to ++ via)) length-to ∙ take-append-seam to via
+
+  pub route-gateway : drop (many + 1) (routeBytes r) ≡ via
+  unfolding routeBytes
+  route-gateway = rw (add-one many) (ap (λ (n : ℕ). drop n (to ++ via)) length-to ∙ drop-append-seam to via)
 
 pub routes-none : routesBytes [] ≡ []
 unfolding routesBytes

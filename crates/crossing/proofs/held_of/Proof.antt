@@ -2,10 +2,11 @@
 -- Assumes nothing.
 use mathlib.Core.Path.{_≡_, refl, ap, _∙_}
 use mathlib.Core.Bool.{Bool, true, false, cond}
+use mathlib.Core.List.{[], _∷_}
 use mir.Syntax.{w32}
 use mir.Facts.{toZ-ofZ}
 use mir.Val.{boolByte}
-use Rattle.facts.specs.BigEndian.{unsigned}
+use Rattle.facts.specs.BigEndian.{number, unsigned}
 use borrow.Author.Needs.{needs}
 use Rattle.crossing.proofs.held_of.Statement.{statement}
 use Rattle.crossing.proofs.held_of.Tie as tie
@@ -21,6 +22,13 @@ returns-10 c =
     let bits : c .before .bits-of .result ≡ unsigned (held .0 .0) =
     c .before .bits-of .ensures ∙ ap unsigned (toZ-ofZ {w = w32} {z = held .0 .0} (search needs)) in
     rw (held .1, ← bits) (c .single7 .ensures)
+
+-- the first of three bytes is the highest
+returns-15 : tie.Need-returns-15
+returns-15 c =
+    let held = c .before .before .before .held13 .given in
+    let three : c .before .be-u32 .result ≡ number (held .0 .0 ∷ held .0 .1 .0 ∷ held .0 .1 .1 .0 ∷ []) = c .before .be-u32 .ensures in
+    rw (held .1, ← three) (c .single11 .ensures)
 
 -- a line for each arm, and a line for what it returns
 pub held-of-spec : {M : Type 1} → statement M
@@ -57,5 +65,5 @@ held-of-spec =
     (λ c. rw (c .before .before .held10 .given .1) (c .list4 .ensures))
     (λ c. rw (c .before .before .before .held11 .given .1, ← c .before .byte-of .ensures) (c .single9 .ensures))
     (λ c. rw (c .before .before .held12 .given .1) (c .single10 .ensures))
-    (λ c. rw (c .before .before .before .held13 .given .1, ← c .before .be-u32 .ensures) (c .single11 .ensures))
+    returns-15
     (λ c. rw (c .before .enum-told3 .given .1) (c .single12 .ensures)))
