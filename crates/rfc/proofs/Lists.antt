@@ -11,7 +11,7 @@ use lib.Seq.{drop-append-seam, drop-drop}
 use Rattle.facts.specs.Over.{over}
 use Rattle.facts.specs.Pieces.{pieces}
 use Rattle.facts.proofs.Over.{over-over, length-over}
-use Rattle.rfc.specs.Numbers.{Answer, given, andThen, mostBytes, mostValue, mostPart, padCode, endCode}
+use Rattle.rfc.specs.Numbers.{Answer, given, refused, andThen, mostBytes, mostValue, mostPart, padCode, endCode}
 use Rattle.rfc.specs.Walk.{Found, stop, option, end, run, further, step}
 use Rattle.rfc.specs.Writing.{encode, Write, answerTo, roomAfter, writeBytes, close}
 use Rattle.rfc.specs.Lists.{Opt, Good, Differs, Valid, encodeAll, Made, does, finished, writeAll, Listing, onward, listIn, listing}
@@ -35,14 +35,40 @@ goes-on : (w : Write) (room room′ : List ℕ) (place to : ℕ) (more : List �
 unfolding does andThen
 goes-on w room room′ place to more a b = λ i. andThen (a i) (more (b i))
 
+-- one that is refused ends it
+ends-at : (w : Write) (room : List ℕ) (place k : ℕ) (more : List ℕ → ℕ → Answer Made)
+    → answerTo w room place ≡ refused k → does w room place more ≡ refused k
+unfolding does andThen
+ends-at w room place k more e = ap (λ (a : Answer ℕ). andThen a (more (roomAfter w room place))) e
+
+-- so a list, write by write
+module _ (room : List ℕ) (place : ℕ) where
+  pub all-goes-on : {room′ : List ℕ} {to : ℕ} (o : Opt) (os : List Opt) → answerTo (writeBytes (o .code) (o .value) room place) room place ≡ given to
+      → roomAfter (writeBytes (o .code) (o .value) room place) room place ≡ room′ → writeAll (o ∷ os) room place ≡ writeAll os room′ to
+  unfolding writeAll
+  all-goes-on o os a b = goes-on _ room _ place _ (writeAll os) a b
+
+  pub all-ends-at : {k : ℕ} (o : Opt) (os : List Opt) → answerTo (writeBytes (o .code) (o .value) room place) room place ≡ refused k
+      → writeAll (o ∷ os) room place ≡ refused k
+  unfolding writeAll
+  all-ends-at o os e = ends-at _ room place _ (writeAll os) e
+
+  pub all-closes : {room′ : List ℕ} {to : ℕ} → answerTo (close room place) room place ≡ given to → roomAfter (close room place) room place ≡ room′
+      → writeAll [] room place ≡ finished room′ to
+  unfolding writeAll
+  all-closes a b = goes-on _ room _ place _ finished a b
+
+  pub all-not-closed : {k : ℕ} → answerTo (close room place) room place ≡ refused k → writeAll [] room place ≡ refused k
+  unfolding writeAll
+  all-not-closed e = ends-at _ room place _ finished e
+
 -- a list that fits is written as its bytes, at any place
 pub writes-all : (os : List Opt) (room : List ℕ) (place : ℕ)
     → Valid os → length room ≤ mostBytes → place + length (encodeAll os) ≤ length room
     → writeAll os room place ≡ finished (over room place (encodeAll os)) (place + length (encodeAll os))
-unfolding writeAll encodeAll
+unfolding encodeAll
 writes-all [] room place v h k =
-    let p : place ≤ length room = omega arith in
-    goes-on (close room place) room _ place _ finished (close-given room place h p k) (close-left room place h p k)
+    let p : place ≤ length room = omega arith in all-closes room place (close-given room place h p k) (close-left room place h p k)
 writes-all (o ∷ os) room place v h k =
     let here : List ℕ = encode mostPart (o .code) (o .value) in
     let there : List ℕ = encodeAll os in
@@ -50,7 +76,7 @@ writes-all (o ∷ os) room place v h k =
     let p : place ≤ length room = omega arith in
     let f : place + length here ≤ length room = omega arith in
     let e : place + length here + length there ≡ place + length (here ++ there) = omega arith in
-    goes-on (writeBytes (o .code) (o .value) room place) room _ place _ (writeAll os)
+    all-goes-on room place o os
     (bytes-given (o .code) (o .value) room place h p (not-pad (v .0)) (not-end (v .0)) (v .0 .most) f)
     (bytes-left (o .code) (o .value) room place h p (not-pad (v .0)) (not-end (v .0)) (v .0 .most) f)
     ∙ writes-all os (over room place here) (place + length here) (v .2)
@@ -69,17 +95,24 @@ next-other code (o ∷ os) rest h d v =
 
 module _ (area rest : List ℕ) (room : ℕ) (short : length area ≤ mostBytes) (joins : mostValue ≤ room) where
   -- the call at the list's End
-  at-end : (place : ℕ) → place ≤ length area → drop place area ≡ endCode ∷ rest → step area place room ≡ given (stop end (place + 1))
+  pub at-end : (place : ℕ) → place ≤ length area → drop place area ≡ encodeAll [] ++ rest → step area place room ≡ given (stop end (place + 1))
+  unfolding encodeAll
   at-end place inside e =
       rw (step-walks area place room short inside, e, walk-end place endCode rest refl) (stop-answered room end (place + 1))
 
-  list-in : (os : List Opt) (place k : ℕ) → Valid os → length os ≤ k → place ≤ length area → drop place area ≡ encodeAll os ++ rest
-      → listIn k area room place ≡ record { options = os; ending = given (stop end (place + length (encodeAll os))) }
-  unfolding encodeAll listIn onward
-  list-in [] place zero v h inside e = λ i. record { options = []; ending = at-end place inside e i }
-  list-in [] place (suc k) v h inside e = ap (λ (a : Answer Found). onward a (listIn k area room)) (at-end place inside e)
-  list-in (o ∷ os) place zero v h inside e = absurd (not-suc-le-zero h)
-  list-in (o ∷ os) place (suc k) v h inside e =
+  -- the call at its first option, and where the rest of the list stands
+  pub record First (o : Opt) (os : List Opt) (place : ℕ) : Type 0 where
+    pub parts : ℕ
+    pub to : ℕ
+    pub finds : step area place room ≡ given (option (o .code) (o .value) parts to)
+    pub within : to ≤ length area
+    pub more : drop to area ≡ encodeAll os ++ rest
+    pub ends : to + length (encodeAll os) ≡ place + length (encodeAll (o ∷ os))
+
+  pub at-option : (o : Opt) (os : List Opt) (place : ℕ) → Valid (o ∷ os) → place ≤ length area → drop place area ≡ encodeAll (o ∷ os) ++ rest
+      → First o os place
+  unfolding encodeAll
+  at-option o os place v inside e =
       let code : ℕ = o .code in
       let value : List ℕ = o .value in
       let here : List ℕ = encode mostPart code value in
@@ -88,19 +121,33 @@ module _ (area rest : List ℕ) (room : ℕ) (short : length area ≤ mostBytes)
       let to : ℕ = place + length here in
       let a : drop place area ≡ here ++ there = e ∙ append-assoc here (encodeAll os) rest in
       let other = next-other code os rest (v .0 .high) (v .1) (v .2) in
-      let w : step area place room ≡ given (option code value n to) =
-      rw (
-        step-walks area place room short inside,
-        a,
-        walk-value code there other (not-pad (v .0)) (not-end (v .0)) mostPart some-part place value (v .0 .some),
-      )
-      (answered room code value n to (omega (arith, v .0 .most))) in
-      let more : drop to area ≡ there =
-      sym (drop-drop (length here) place area) ∙ ap (drop (length here)) a ∙ drop-append-seam here there in
-      let q : to + length (encodeAll os) ≡ place + length (here ++ encodeAll os) = omega (arith, length-append here (encodeAll os)) in
-      let l : to ≤ length area = omega (arith, ap length a, length-append here there, length-drop place area) in
-      let r = list-in os to k (v .2) (omega arith) l more ∙ (λ i. record { options = os; ending = given (stop end (q i)) }) in
-      ap (λ (x : Answer Found). onward x (listIn k area room)) w ∙ (λ i. record { options = o ∷ r i .options; ending = r i .ending })
+      record {
+        parts = n;
+        to = to;
+        finds =
+            rw (
+              step-walks area place room short inside,
+              a,
+              walk-value code there other (not-pad (v .0)) (not-end (v .0)) mostPart some-part place value (v .0 .some),
+            )
+            (answered room code value n to (omega (arith, v .0 .most)));
+        within = omega (arith, ap length a, length-append here there, length-drop place area);
+        more = sym (drop-drop (length here) place area) ∙ ap (drop (length here)) a ∙ drop-append-seam here there;
+        ends = omega (arith, length-append here (encodeAll os));
+      }
+
+  list-in : (os : List Opt) (place k : ℕ) → Valid os → length os ≤ k → place ≤ length area → drop place area ≡ encodeAll os ++ rest
+      → listIn k area room place ≡ record { options = os; ending = given (stop end (place + length (encodeAll os))) }
+  unfolding encodeAll listIn onward
+  list-in [] place zero v h inside e = λ i. record { options = []; ending = at-end place inside e i }
+  list-in [] place (suc k) v h inside e = ap (λ (a : Answer Found). onward a (listIn k area room)) (at-end place inside e)
+  list-in (o ∷ os) place zero v h inside e = absurd (not-suc-le-zero h)
+  list-in (o ∷ os) place (suc k) v h inside e =
+      let first = at-option o os place v inside e in
+      let r = list-in os (first .to) k (v .2) (omega arith) (first .within) (first .more) in
+      ap (λ (x : Answer Found). onward x (listIn k area room)) (first .finds)
+      ∙ (λ i. record { options = o ∷ r i .options; ending = r i .ending })
+      ∙ (λ i. record { options = o ∷ os; ending = given (stop end (first .ends i)) })
 
 -- a list has fewer options than bytes
 length-list : (os : List Opt) → Valid os → length os < length (encodeAll os)
