@@ -10,7 +10,7 @@ ghost use Rattle.pen.specs.Texts.{named};
 ghost use Rattle.pen.specs.Adding.{addsAll};
 ghost use Rattle.lines.specs.Listing.{messageLine, addressText, chaddrLine, areaLines, listing};
 ghost use Rattle.lines.specs.Listing.{refusedLine, optionLine, stopWord, stopLine, linesIn};
-ghost use Rattle.lines.specs.Told.{Listed, numberIn, endingOf};
+ghost use Rattle.lines.specs.Told.{Listed, numberIn};
 use borrowed::answer::Step;
 use borrowed::answer::Stop;
 use encoder::Written;
@@ -156,24 +156,21 @@ fn put_options(text: &mut [u8], at: usize, area: &[u8], join: &mut [u8], calls: 
     let mut left = calls;
     while left > 0 {
         left -= 1;
-        let found = borrowed::step(area, place, join);
-        let Step::Found {
-            code,
-            parts,
-            len,
-            place: next,
-        } = found
-        else {
-            return put_ending(text, to, found);
-        };
-        to = put_option(
-            text,
-            to,
-            code,
-            parts,
-            borrowed::value(area, join, parts, len, next),
-        );
-        place = next;
+        match borrowed::step(area, place, join) {
+            Step::Found {
+                code,
+                parts,
+                len,
+                place: next,
+            } => {
+                let value = borrowed::value(area, join, parts, len, next);
+                to = put_option(text, to, code, parts, value);
+                place = next;
+            }
+            Step::Stopped(stop, end) => return put_stop(text, to, stop, end),
+            Step::Refused(number) => return put_refused(text, to, number),
+            Step::Needs(_) => return put_refused(text, to, 5),
+        }
     }
     to
 }
@@ -188,24 +185,6 @@ fn put_option(text: &mut [u8], at: usize, code: u8, parts: usize, value: &[u8]) 
     let bytes = pen::put_word(text, shown, b" value");
     let end = pen::put_spaced(text, bytes, value);
     pen::put_word(text, end, b"\n")
-}
-
-// Adds the line of what ended the walk.
-fn put_ending(text: &mut [u8], at: usize, found: Step) -> usize
-    ensures { λ r. ⌜ (now (text .exit), r) ≡ addsAll (now (text .entry), at) (endingOf found) ⌝ }
-{
-    match found {
-        Step::Stopped(stop, place) => put_stop(text, at, stop, place),
-        Step::Refused(number) => put_refused(text, at, number),
-        Step::Needs(_) => put_refused(text, at, 5),
-        // No option comes here.
-        Step::Found {
-            code: _,
-            parts: _,
-            len: _,
-            place: _,
-        } => at,
-    }
 }
 
 // Adds the line of a stop and its place.
