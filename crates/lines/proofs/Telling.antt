@@ -25,14 +25,17 @@ use Rattle.pen.proofs.Adding.{both}
 use Rattle.lines.specs.Words as words
 use Rattle.lines.specs.Words.{newline}
 use Rattle.lines.specs.Listing.{mostListed, messageLine, refusedLine, chaddrLine, optionLine, stopLine, onward, linesIn, areaLines, listing}
-use Rattle.lines.specs.Told.{Listed, numberIn}
+use Rattle.lines.specs.Told.{Listed, Given}
 
--- a message that is listed is read
-pub number-of : (message : List ℕ) (f : header.Part) → Listed message → (n : Number) → said.says n ≡ field f message
-    → numberIn n ≡ number (bytesOf f message)
-number-of message f l (numbers.Is n) e = sym (given-field message f n (sym e) .1)
-number-of message f l (numbers.Refused k) e =
-    absurd (given-no _ k (sym (field-given message f (message-read message (omega (arith, l .most)) (l .least))) ∙ sym e))
+-- a field of the header: of a message that is listed it is given, and it is the number of its bytes
+module _ (message : List ℕ) (f : header.Part) where
+  pub number-given : Listed message → (n : Number) → said.says n ≡ field f message → Given n
+  number-given l (numbers.Is n) e = tt
+  number-given l (numbers.Refused k) e =
+      absurd (given-no _ k (sym (field-given message f (message-read message (omega (arith, l .most)) (l .least))) ∙ sym e))
+
+  pub number-of : (n : Number) (r : ℕ) → said.says n ≡ field f message → n ≡ numbers.Is r → r ≡ number (bytesOf f message)
+  number-of n r e is = sym (given-field message f r (sym e ∙ ap said.says is) .1)
 
 -- call after call: one that finds an option has more lines behind it; any other answer is the last line
 module _ (area join : List ℕ) (room place k : ℕ) (some : 0 < k) (found : Step) (told : says found area join ≡ walk.step area place room) where

@@ -13,7 +13,7 @@ pub record Listed (message : List ℕ) : Type 0 where
   pub least : leastMessage ≤ length message
   pub most : length message ≤ mostListed
 
--- a number of the header, 0 where it is refused
-abbrev pub numberIn : Number → ℕ
-numberIn (numbers.Is n) = n
-numberIn (numbers.Refused k) = 0
+-- a number of the header that is not refused
+abbrev pub Given : Number → Type 0
+Given (numbers.Is n) = Unit {0}
+Given (numbers.Refused k) = ⊥

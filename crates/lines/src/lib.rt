@@ -5,12 +5,12 @@ ghost use lib.ListN.{length};
 ghost use Rattle.rfc.specs.Header as rfc;
 ghost use Rattle.rfc.specs.Writing.{intoRoom};
 ghost use Rattle.encoder.specs.Written.{Wrote};
+ghost use Rattle.header.specs.declared.Number.the-variants.{Is};
 ghost use Rattle.borrowed.specs.Walked.{stopOf};
-ghost use Rattle.pen.specs.Texts.{named};
 ghost use Rattle.pen.specs.Adding.{addsAll};
 ghost use Rattle.lines.specs.Listing.{messageLine, addressText, chaddrLine, areaLines, listing};
 ghost use Rattle.lines.specs.Listing.{refusedLine, optionLine, stopWord, stopLine, linesIn};
-ghost use Rattle.lines.specs.Told.{Listed, numberIn};
+ghost use Rattle.lines.specs.Told.{Listed, Given};
 use borrowed::answer::Step;
 use borrowed::answer::Stop;
 use encoder::Written;
@@ -74,28 +74,21 @@ fn put_message(text: &mut [u8], at: usize, message: &[u8]) -> usize
     ensures { λ r. ⌜ (now (text .exit), r) ≡ addsAll (now (text .entry), at) (messageLine (now (message .entry))) ⌝ }
 {
     let op = pen::put_named(text, at, b"message ", message.len());
-    let htype = put_field(text, op, b" op ", Header::op(message));
-    let hlen = put_field(text, htype, b" htype ", Header::htype(message));
-    let xid = put_field(text, hlen, b" hlen ", Header::hlen(message));
-    let end = put_field(text, xid, b" xid ", Header::xid(message));
+    let htype = pen::put_named(text, op, b" op ", number_in(Header::op(message)));
+    let hlen = pen::put_named(text, htype, b" htype ", number_in(Header::htype(message)));
+    let xid = pen::put_named(text, hlen, b" hlen ", number_in(Header::hlen(message)));
+    let end = pen::put_named(text, xid, b" xid ", number_in(Header::xid(message)));
     pen::put_word(text, end, b"\n")
 }
 
-// Adds a field's name and its number.
-fn put_field(text: &mut [u8], at: usize, name: &[u8], field: Number) -> usize
-    ensures { λ r. ⌜ (now (text .exit), r) ≡ addsAll (now (text .entry), at) (named (now (name .entry)) (numberIn field)) ⌝ }
-{
-    let number = number_in(field);
-    pen::put_named(text, at, name, number)
-}
-
-// A number of the header.
+// A number of the header, of a message that is listed.
 fn number_in(number: Number) -> usize
-    ensures { λ r. ⌜ r ≡ numberIn number ⌝ }
+    requires { ⌜ Given number ⌝ }
+    ensures { λ r. ⌜ number ≡ Is r ⌝ }
 {
     match number {
         Number::Is(n) => n,
-        // No message that is listed comes here.
+        // Never: what is required rules it out, and the contract has no answer for it.
         Number::Refused(_) => 0,
     }
 }
