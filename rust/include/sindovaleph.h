@@ -136,7 +136,8 @@ typedef struct {
     size_t place; /* where a further call goes on */
 } SindovalephListed;
 
-/* An option in a listing, as in SindovalephStep. Rows are lent as numbers: `&rows[0].code`, and 4 for each row. */
+/* An option in a listing, in the numbers of SindovalephStep. Nothing is joined: with two parts or more the value stands
+   in the area alone, part by part. Rows are lent as numbers: `&rows[0].code`, and 4 for each row. */
 typedef struct {
     size_t code;
     size_t parts;
@@ -144,8 +145,8 @@ typedef struct {
     size_t place;
 } SindovalephRow;
 
-/* An option in a typed listing, as in SindovalephStep and SindovalephValue: 8 numbers a row. Nothing is joined: an
-   option of two parts or more is refused with 5, unless it is empty. */
+/* An option in a typed listing, in the numbers of SindovalephRow and SindovalephValue: 8 numbers a row. Nothing is
+   joined: an option of two parts or more is refused with 5, unless it is empty. */
 typedef struct {
     size_t code;
     size_t parts;

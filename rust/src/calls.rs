@@ -123,7 +123,8 @@ pub struct Listed {
     pub place: usize,
 }
 
-/// An option in a listing, in the numbers of [`Step`].
+/// An option in a listing, in the numbers of [`Step`]. Nothing is joined: with two parts or more the value stands in
+/// the area alone, part by part.
 #[repr(C)]
 #[derive(Clone, Copy, Debug, Default, PartialEq, Eq)]
 pub struct Row {

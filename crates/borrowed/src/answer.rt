@@ -12,8 +12,9 @@ pub enum Stop {
 pub enum Step {
     // A stop, and the place behind it.
     Stopped(Stop, usize),
-    // A whole option, and the place behind its last part. With one part its value is the `len` bytes of the area before `place`, with
-    // more the first `len` bytes of the join buffer.
+    // A whole option, and the place behind its last part. With one part its value is the `len` bytes of the area before `place`. With
+    // more it is, after `step`, the first `len` bytes of the join buffer; `look` joins nothing, and the value stands in the area alone,
+    // part by part.
     Found {
         code: u8,
         parts: usize,
@@ -22,7 +23,7 @@ pub enum Step {
     },
     // A refusal by its number.
     Refused(u8),
-    // Refusal 5, with the length that is needed.
+    // Refusal 5, with the length that is needed; `look` never answers it.
     Needs(usize),
 }
 

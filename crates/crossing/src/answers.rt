@@ -11,7 +11,8 @@ pub struct Field {
 // One call of the walk. `stop` is 0 for an option, 1 for out, 2 for End, 3 for a cut length, 4 for a cut value, 5 for a cut continuation.
 // An option has its code, its parts and the length of its value: with one part the value is the `len` bytes of the area before `place`,
 // with more the first `len` bytes of the join buffer. `place` is where the walk goes on; a refusal leaves it, and refusal 5 says in `len`
-// how much is needed.
+// how much is needed. Of these numbers those of an option make a row of a listing, which joins nothing: there a value of more parts
+// stands in the area alone, part by part.
 #[repr(C)]
 pub struct Step {
     pub refused: u8,

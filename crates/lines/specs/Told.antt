@@ -1,29 +1,19 @@
 -- What the answers of the library say in a listing.
 -- Assumes nothing.
 use Prim.Native.Nat.{ℕ, _≤_}
-use mathlib.Core.List.{List, []}
+use mathlib.Core.List.{List}
 use lib.ListN.{length}
 use Rattle.rfc.specs.Numbers.{leastMessage}
-use Rattle.borrowed.specs.Walked.{stopOf}
 use Rattle.header.specs.declared.Number.{Number}
 use Rattle.header.specs.declared.Number.the-variants as numbers
-use Rattle.borrowed.specs.declared.answer.Step.{Step}
-use Rattle.borrowed.specs.declared.answer.Step.the-variants as step
-use Rattle.lines.specs.Listing.{mostListed, stopLine, refusedLine}
+use Rattle.lines.specs.Listing.{mostListed}
 
 -- a message that is listed
 pub record Listed (message : List ℕ) : Type 0 where
   pub least : leastMessage ≤ length message
   pub most : length message ≤ mostListed
 
--- a number of the header, 0 where it is refused
-abbrev pub numberIn : Number → ℕ
-numberIn (numbers.Is n) = n
-numberIn (numbers.Refused k) = 0
-
--- the last line, where a call found no option
-abbrev pub endingOf : Step → List ℕ
-endingOf (step.Stopped s at) = stopLine (stopOf s) at
-endingOf (step.Found code parts len place) = []
-endingOf (step.Refused number) = refusedLine number
-endingOf (step.Needs len) = refusedLine 5
+-- a number of the header that is not refused
+abbrev pub Given : Number → Type 0
+Given (numbers.Is n) = Unit {0}
+Given (numbers.Refused k) = ⊥

@@ -5,12 +5,12 @@ ghost use lib.ListN.{length};
 ghost use Rattle.rfc.specs.Header as rfc;
 ghost use Rattle.rfc.specs.Writing.{intoRoom};
 ghost use Rattle.encoder.specs.Written.{Wrote};
+ghost use Rattle.header.specs.declared.Number.the-variants.{Is};
 ghost use Rattle.borrowed.specs.Walked.{stopOf};
-ghost use Rattle.pen.specs.Texts.{named};
 ghost use Rattle.pen.specs.Adding.{addsAll};
 ghost use Rattle.lines.specs.Listing.{messageLine, addressText, chaddrLine, areaLines, listing};
 ghost use Rattle.lines.specs.Listing.{refusedLine, optionLine, stopWord, stopLine, linesIn};
-ghost use Rattle.lines.specs.Told.{Listed, numberIn, endingOf};
+ghost use Rattle.lines.specs.Told.{Listed, Given};
 use borrowed::answer::Step;
 use borrowed::answer::Stop;
 use encoder::Written;
@@ -74,28 +74,21 @@ fn put_message(text: &mut [u8], at: usize, message: &[u8]) -> usize
     ensures { λ r. ⌜ (now (text .exit), r) ≡ addsAll (now (text .entry), at) (messageLine (now (message .entry))) ⌝ }
 {
     let op = pen::put_named(text, at, b"message ", message.len());
-    let htype = put_field(text, op, b" op ", Header::op(message));
-    let hlen = put_field(text, htype, b" htype ", Header::htype(message));
-    let xid = put_field(text, hlen, b" hlen ", Header::hlen(message));
-    let end = put_field(text, xid, b" xid ", Header::xid(message));
+    let htype = pen::put_named(text, op, b" op ", number_in(Header::op(message)));
+    let hlen = pen::put_named(text, htype, b" htype ", number_in(Header::htype(message)));
+    let xid = pen::put_named(text, hlen, b" hlen ", number_in(Header::hlen(message)));
+    let end = pen::put_named(text, xid, b" xid ", number_in(Header::xid(message)));
     pen::put_word(text, end, b"\n")
 }
 
-// Adds a field's name and its number.
-fn put_field(text: &mut [u8], at: usize, name: &[u8], field: Number) -> usize
-    ensures { λ r. ⌜ (now (text .exit), r) ≡ addsAll (now (text .entry), at) (named (now (name .entry)) (numberIn field)) ⌝ }
-{
-    let number = number_in(field);
-    pen::put_named(text, at, name, number)
-}
-
-// A number of the header.
+// A number of the header, of a message that is listed.
 fn number_in(number: Number) -> usize
-    ensures { λ r. ⌜ r ≡ numberIn number ⌝ }
+    requires { ⌜ Given number ⌝ }
+    ensures { λ r. ⌜ number ≡ Is r ⌝ }
 {
     match number {
         Number::Is(n) => n,
-        // No message that is listed comes here.
+        // Never: what is required rules it out, and the contract has no answer for it.
         Number::Refused(_) => 0,
     }
 }
@@ -156,24 +149,21 @@ fn put_options(text: &mut [u8], at: usize, area: &[u8], join: &mut [u8], calls: 
     let mut left = calls;
     while left > 0 {
         left -= 1;
-        let found = borrowed::step(area, place, join);
-        let Step::Found {
-            code,
-            parts,
-            len,
-            place: next,
-        } = found
-        else {
-            return put_ending(text, to, found);
-        };
-        to = put_option(
-            text,
-            to,
-            code,
-            parts,
-            borrowed::value(area, join, parts, len, next),
-        );
-        place = next;
+        match borrowed::step(area, place, join) {
+            Step::Found {
+                code,
+                parts,
+                len,
+                place: next,
+            } => {
+                let value = borrowed::value(area, join, parts, len, next);
+                to = put_option(text, to, code, parts, value);
+                place = next;
+            }
+            Step::Stopped(stop, end) => return put_stop(text, to, stop, end),
+            Step::Refused(number) => return put_refused(text, to, number),
+            Step::Needs(_) => return put_refused(text, to, 5),
+        }
     }
     to
 }
@@ -188,24 +178,6 @@ fn put_option(text: &mut [u8], at: usize, code: u8, parts: usize, value: &[u8]) 
     let bytes = pen::put_word(text, shown, b" value");
     let end = pen::put_spaced(text, bytes, value);
     pen::put_word(text, end, b"\n")
-}
-
-// Adds the line of what ended the walk.
-fn put_ending(text: &mut [u8], at: usize, found: Step) -> usize
-    ensures { λ r. ⌜ (now (text .exit), r) ≡ addsAll (now (text .entry), at) (endingOf found) ⌝ }
-{
-    match found {
-        Step::Stopped(stop, place) => put_stop(text, at, stop, place),
-        Step::Refused(number) => put_refused(text, at, number),
-        Step::Needs(_) => put_refused(text, at, 5),
-        // No option comes here.
-        Step::Found {
-            code: _,
-            parts: _,
-            len: _,
-            place: _,
-        } => at,
-    }
 }
 
 // Adds the line of a stop and its place.

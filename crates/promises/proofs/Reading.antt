@@ -1,21 +1,19 @@
 -- Strict reading is plain reading with more refused, by the laws of `rfc`; a number of seconds and its bytes give each other back.
 -- Assumes nothing.
 use mathlib.Core.Path.{_≡_, sym, ap, _∙_}
-use Prim.Native.Nat.{ℕ, zero, suc, _^_, _<_}
-use mathlib.Core.List.{List, [], _∷_}
-use lib.Dec.{lit<}
-use lib.ListN.{length, getD, take}
+use Prim.Native.Nat.{ℕ, _^_, _<_}
+use mathlib.Core.List.{List}
+use lib.ListN.{length, take}
 use lib.Seq.{take-all}
 use native.Mathlib.Omega.{arith}
 use lib.IntN.{ℤ}
 use Rattle.facts.specs.BigEndian.{number, digits, signed, unsigned}
-use Rattle.facts.specs.Ranges.{within, lookup}
 use Rattle.facts.proofs.BigEndian.{number-below, writes-back}
 use Rattle.facts.proofs.Signs.{unsigned-back}
 use Rattle.rfc.specs.Numbers.{given}
-use Rattle.rfc.specs.Kinds.{kinds, kindOf}
 use Rattle.rfc.specs.Values.{integer, Value, Mode, read}
-use Rattle.rfc.specs.Lists.{Bytes}
+use Rattle.rfc.proofs.Codes.{seconds-kind}
+use Rattle.rfc.proofs.Lists.{byte-below}
 use Rattle.rfc.proofs.Values.{i32, scalar-value}
 use Rattle.rfc.proofs.Readings.{strict-plain, read-right}
 use Rattle.rfc.proofs.Readback.{seconds-back}
@@ -27,19 +25,12 @@ strict-reads-alike code v value e = strict-plain code v value e
 pub seconds-read-back : SecondsReadBack
 seconds-read-back mode z h = seconds-back mode z h
 
--- a byte at any place
-byte-below : (v : List ℕ) → Bytes v → (i : ℕ) → getD v i 0 < 256
-byte-below [] b i = lit< tt
-byte-below (x ∷ v) b zero = b .0
-byte-below (x ∷ v) b (suc i) = byte-below v (b .1) i
-
 -- what the code 2 reads as is the number of its four bytes
 is-number : (mode : Mode) (v : List ℕ) (z : ℤ) → length v ≡ 4 → read mode 2 v ≡ given (record { kind = 9; content = integer z })
     → signed (number v) ≡ z
-unfolding within lookup kinds kindOf
 is-number mode v z long e =
     let held : integer (signed (number (take 4 v))) ≡ integer z =
-    ap (λ (x : Value). x .content) (sym (scalar-value v i32) ∙ read-right mode 2 v _ e .1) in
+    ap (λ (x : Value). x .content) (sym (scalar-value v i32) ∙ rw seconds-kind at (read-right mode 2 v _ e .1)) in
     let same : signed (number (take 4 v)) ≡ z = cc in
     ap (λ (l : List ℕ). signed (number l)) (sym (take-all 4 v (omega arith))) ∙ same
 

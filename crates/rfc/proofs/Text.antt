@@ -5,6 +5,7 @@ use mathlib.Core.Bool.{Bool, true, false, cond}
 use mathlib.Core.List.{List, [], _∷_}
 use mathlib.Core.Option.{Option, none, some}
 use Prim.Native.Nat.{ℕ, _+_, _≤_, _<_}
+use native.Mathlib.Decide.{decLe}
 use native.Mathlib.Numerals.{add-one}
 use native.Mathlib.Omega.{arith}
 use lib.ListN.{length, drop, getD, drop-of-length-le, length-drop}
@@ -46,6 +47,14 @@ module _ (b : ℕ) where
   pub lead-ee-ef : 0xee ≤ b → b ≤ 0xef → lead b ≡ some (tail ∷ tail ∷ [])
   unfolding forms
   lead-ee-ef p q = in-row 0xee 0xef _ p q refl
+
+  -- the two rows of three that leave out no byte of UTF8-tail
+  pub lead-e1-ef : 0xe1 ≤ b → b ≤ 0xef → (b ≡ 0xed → ⊥) → lead b ≡ some (tail ∷ tail ∷ [])
+  lead-e1-ef p q n = by (decLe b 0xec)
+    where
+      by : Dec (b ≤ 0xec) → lead b ≡ some (tail ∷ tail ∷ [])
+      by (yes u) = lead-e1-ec p u
+      by (no u) = lead-ee-ef (omega arith) q
 
   pub lead-f0 : b ≡ 0xf0 → lead b ≡ some (range 0x90 0xbf ∷ tail ∷ tail ∷ [])
   unfolding forms

@@ -1,4 +1,4 @@
--- What first bytes ask for that the code tests together: those of three that leave out no byte of UTF8-tail, and all of four.
+-- What the first bytes of four ask for, which the code tests together with the second bytes.
 -- Assumes nothing.
 use mathlib.Core.Path.{_≡_}
 use mathlib.Core.Bool.{false}
@@ -11,16 +11,9 @@ use lib.ListN.{length, getD}
 use Rattle.facts.specs.Ranges.{within}
 use Rattle.facts.proofs.Ranges.{inside, above, below}
 use Rattle.rfc.specs.Text.{range, tail, lead}
-use Rattle.rfc.proofs.Text.{lead-e1-ec, lead-ee-ef, lead-f0, lead-f1-f3, lead-f4, lead-f5-on, Reached, begun, followed, not-followed}
+use Rattle.rfc.proofs.Text.{lead-f0, lead-f1-f3, lead-f4, lead-f5-on, Reached, begun, followed, not-followed}
 use Rattle.text.specs.Width.{Four, Width}
 use Rattle.text.proofs.Widths.{nothing, none-there, cut}
-
-pub lead-e1-ef : (b : ℕ) → 0xe1 ≤ b → b ≤ 0xef → (b ≡ 0xed → ⊥) → lead b ≡ some (tail ∷ tail ∷ [])
-lead-e1-ef b p q n = by (decLe b 0xec)
-  where
-    by : Dec (b ≤ 0xec) → lead b ≡ some (tail ∷ tail ∷ [])
-    by (yes u) = lead-e1-ec b p u
-    by (no u) = lead-ee-ef b (omega arith) q
 
 -- a first byte of four: what it asks for, which is what the two bytes together are tested for
 record Leads (b : ℕ) : Type 0 where

@@ -1,13 +1,14 @@
 // Whether bytes are UTF-8, as the crate's `Decoder::read_string` asks it of `str::from_utf8`: first past the blocks of ASCII bytes in
 // front, then by whole characters, a form of the grammar of RFC 3629, section 4, for each.
 ghost use mathlib.Core.Path.{_≡_};
-ghost use mathlib.Core.Bool.{true, false};
+ghost use mathlib.Core.Bool.{true, false, _||_};
 ghost use mathlib.Core.List.{[], _∷_};
 ghost use Prim.Native.Nat.{_+_, _≤_, _<_};
+ghost use lib.Dec.{ltb};
 ghost use lib.ListN.{length, drop, getD};
 ghost use Rattle.facts.specs.Ranges.{within};
 ghost use Rattle.rfc.specs.Text.{utf8, range, tail};
-ghost use Rattle.text.specs.Ascii.{Ascii};
+ghost use Rattle.text.specs.Ascii.{AnyHigh, PastAscii};
 ghost use Rattle.text.specs.Width.{Asks, Four, Width};
 
 // How many bytes are looked at together for one that is not ASCII.
@@ -23,7 +24,7 @@ pub fn is_utf8(text: &[u8]) -> bool
 
 // A place that has only ASCII bytes before it: the text's end where all are, and else where a block begins that has another.
 fn past_ascii(text: &[u8]) -> usize
-    ensures { λ r. ⌜ (r ≤ length (now (text .entry))) × Ascii (now (text .entry)) 0 r ⌝ }
+    ensures { λ r. ⌜ PastAscii (now (text .entry)) r ⌝ }
 {
     let mut i: usize = 0;
     while text.len() - i >= BLOCK {
@@ -41,7 +42,7 @@ fn past_ascii(text: &[u8]) -> usize
 // Whether one of the `n` bytes from `i` on is above 0x7f. There is no way out of the loop, so that it is compiled to vector code.
 fn any_high(text: &[u8], i: usize, n: usize) -> bool
     requires { ⌜ i + n ≤ length (now text) ⌝ }
-    ensures { λ r. ⌜ (r ≡ false → Ascii (now (text .entry)) i (i + n)) ⌝ }
+    ensures { λ r. ⌜ AnyHigh (now (text .entry)) i (i + n) r ⌝ }
 {
     let mut high = false;
     let mut j: usize = 0;
@@ -54,7 +55,7 @@ fn any_high(text: &[u8], i: usize, n: usize) -> bool
 
 // Whether a byte is above 0x7f, or one before it was.
 fn or_high(before: bool, b: u8) -> bool
-    ensures { λ r. ⌜ (r ≡ false → (before ≡ false) × (b ≤ 0x7f)) ⌝ }
+    ensures { λ r. ⌜ r ≡ (before || ltb 0x7f b) ⌝ }
 {
     before | (b > 0x7f)
 }
@@ -63,7 +64,7 @@ fn or_high(before: bool, b: u8) -> bool
 // where the text does, and may begin inside the first.
 fn high_rest(text: &[u8], i: usize) -> bool
     requires { ⌜ i ≤ length (now text) ⌝ }
-    ensures { λ r. ⌜ (r ≡ false → Ascii (now (text .entry)) i (length (now (text .entry)))) ⌝ }
+    ensures { λ r. ⌜ AnyHigh (now (text .entry)) i (length (now (text .entry))) r ⌝ }
 {
     let n = text.len() - i;
     if n < 8 {
@@ -78,7 +79,7 @@ fn high_rest(text: &[u8], i: usize) -> bool
 // Whether one of the 8 bytes from `i` on is above 0x7f, and so their `|`. They are read first, so that it is compiled to one load.
 fn high_8(text: &[u8], i: usize) -> bool
     requires { ⌜ i + 8 ≤ length (now text) ⌝ }
-    ensures { λ r. ⌜ (r ≡ false → Ascii (now (text .entry)) i (i + 8)) ⌝ }
+    ensures { λ r. ⌜ AnyHigh (now (text .entry)) i (i + 8) r ⌝ }
 {
     let b0 = text[i];
     let b1 = text[i + 1];

@@ -15,7 +15,7 @@ use Rattle.borrowed.specs.Walked.{stopOf, shown, says}
 use Rattle.borrowed.specs.declared.answer.Step.{Step}
 use Rattle.borrowed.specs.declared.answer.Step.the-variants as step
 use Rattle.borrowed.proofs.answer.Step.{the-type}
-use Rattle.whole.specs.Whole.{shownBy, ValueTells, ReadWhole, passedOn}
+use Rattle.whole.specs.Whole.{shownBy, ValueTells, ReadWhole, NoOption, Passed}
 use Rattle.whole.specs.declared.Whole.{Whole}
 use Rattle.whole.specs.declared.Whole.the-variants as whole
 
@@ -23,17 +23,23 @@ use Rattle.whole.specs.declared.Whole.the-variants as whole
 abbrev others : List ℕ
 others = 0 ∷ 2 ∷ 3 ∷ []
 
+pub no-option : (found : Step) → OneOf others (tagOf the-type found) → NoOption found
+no-option (step.Stopped s at) e = tt
+no-option (step.Found code parts len place) e = absurd (miss others 1 tt e)
+no-option (step.Refused number) e = tt
+no-option (step.Needs len) e = tt
+
 module _ (mode : Mode) (area join : List ℕ) where
   -- r is what the reading of a step answers
   abbrev pub Answers : Step → Whole → Type 0
   Answers found r = ReadWhole (shownBy found area join) (readOption mode (says found area join)) r
 
   -- what is no option passes through
-  pub passes-on : (found : Step) → OneOf others (tagOf the-type found) → Answers found (passedOn found)
-  passes-on (step.Stopped s at) e = sym (option-stopped mode (stopOf s) at)
-  passes-on (step.Found code parts len place) e = absurd (miss others 1 tt e)
-  passes-on (step.Refused number) e = sym (option-refused mode number _ refl)
-  passes-on (step.Needs len) e = sym (option-needs mode len _ refl)
+  pub passes-on : (found : Step) (r : Whole) → Passed found r → Answers found r
+  passes-on (step.Stopped s at) r e = rw e (sym (option-stopped mode (stopOf s) at))
+  passes-on (step.Found code parts len place) r e = absurd e
+  passes-on (step.Refused number) r e = rw e (sym (option-refused mode number _ refl))
+  passes-on (step.Needs len) r e = rw e (sym (option-needs mode len _ refl))
 
   -- an option is read
   module _ (found : Step) (code parts len place : ℕ) (is : found ≡ step.Found code parts len place) where

@@ -33,9 +33,16 @@ ReadWhole v answer (Valued code value place) = ValueTells v answer code value pl
 ReadWhole v answer (Refused number) = refused number ≡ answer
 ReadWhole v answer (Needs len) = needs len ≡ answer
 
--- Between the functions of the crate: what is answered where no option was found. (An option does not come here.)
-abbrev pub passedOn : Step → Whole
-passedOn (step.Stopped s at) = Stopped s at
-passedOn (step.Found code parts len place) = Refused 4
-passedOn (step.Refused number) = Refused number
-passedOn (step.Needs len) = Needs len
+-- Between the functions of the crate: a step found no option
+abbrev pub NoOption : Step → Type 0
+NoOption (step.Stopped s at) = Unit {0}
+NoOption (step.Found code parts len place) = ⊥
+NoOption (step.Refused number) = Unit {0}
+NoOption (step.Needs len) = Unit {0}
+
+-- and what it answered passes through
+abbrev pub Passed : Step → Whole → Type 0
+Passed (step.Stopped s at) r = r ≡ Stopped s at
+Passed (step.Found code parts len place) r = ⊥
+Passed (step.Refused number) r = r ≡ Refused number
+Passed (step.Needs len) r = r ≡ Needs len

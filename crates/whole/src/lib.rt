@@ -1,9 +1,8 @@
 // The typed reading of a whole option: it starts from what a step of the walk answered.
-ghost use mathlib.Core.Path.{_≡_};
 ghost use Rattle.rfc.specs.Values.{readOption};
 ghost use Rattle.values.specs.Reading.{modeOf};
 ghost use Rattle.borrowed.specs.Walked.{says};
-ghost use Rattle.whole.specs.Whole.{shownBy, ReadWhole, passedOn};
+ghost use Rattle.whole.specs.Whole.{shownBy, ReadWhole, NoOption, Passed};
 use borrowed::answer::Step;
 use borrowed::answer::Stop;
 use values::answer::Reading;
@@ -46,13 +45,14 @@ pub fn read_option<'a>(found: Step, area: &'a [u8], join: &'a [u8], strict: bool
 
 // What a step answered that found no option.
 fn passed(found: Step) -> Whole
-    ensures { λ r. ⌜ r ≡ passedOn found ⌝ }
+    requires { ⌜ NoOption found ⌝ }
+    ensures { λ r. ⌜ Passed found r ⌝ }
 {
     match found {
         Step::Stopped(stop, at) => Whole::Stopped(stop, at),
         Step::Refused(number) => Whole::Refused(number),
         Step::Needs(len) => Whole::Needs(len),
-        // No option comes here.
+        // Never: what is required rules it out, and the contract has no answer for it.
         Step::Found {
             code: _,
             parts: _,

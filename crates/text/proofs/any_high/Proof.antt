@@ -1,24 +1,22 @@
--- `any_high` meets its contract: as long as no byte is high, each is ASCII.
+-- `any_high` meets its contract: the answer so far is whether one of the bytes so far is high.
 -- Assumes nothing.
-use mathlib.Core.Path.{_≡_}
-use mathlib.Core.Bool.{false}
 use Prim.Native.Nat.{_+_, _-_, _≤_}
 use native.Mathlib.Omega.{arith}
-use Rattle.text.specs.Ascii.{Ascii}
-use Rattle.text.proofs.Ascii.{no-bytes, one-more, shorter}
+use Rattle.text.specs.Ascii.{AnyHigh}
+use Rattle.text.proofs.Ascii.{none-asked, one-asked, either, ends}
 use Rattle.text.proofs.any_high.Statement.{statement}
 use Rattle.text.proofs.any_high.Tie as tie
 
 abbrev Inv-loop : tie.InvT-loop
-Inv-loop text i n high₀ j₀ high j = (j ≤ n) × ((high ≡ false) → Ascii text i (i + j))
+Inv-loop text i n high₀ j₀ high j = (j ≤ n) × AnyHigh text i (i + j) high
 
 abbrev μ-loop : tie.MeasureT-loop
 μ-loop text i n high₀ j₀ high j = n - j
 
 loop-again : tie.Need-loop-again Inv-loop μ-loop
 loop-again c =
-    let e = c .or-high .ensures in
-    (omega arith, λ h. one-more (c .before .before .before .loop .inv .1 (e h .0)) (e h .1) (omega arith))
+    let before = c .before .before .before .loop .inv .1 in
+    (omega arith, rw (c .or-high .ensures) (either before (one-asked _) (omega arith) (omega arith) (omega arith) (omega arith)))
 
 pub any-high-spec : {M : Type 1} → statement M
 any-high-spec =
@@ -26,11 +24,11 @@ any-high-spec =
     (tie.spec
     Inv-loop
     μ-loop
-    (λ c. (omega arith, λ e. no-bytes _ _ (omega arith)))
+    (λ c. (omega arith, none-asked _ _ (omega arith)))
     (λ c. omega arith)
     (λ c. omega arith)
     (λ c κs. tt)
     (λ c. omega arith)
     (λ c. omega arith)
     loop-again
-    (λ c e. shorter (c .before .loop .inv .1 e) (omega arith)))
+    (λ c. ends (c .before .loop .inv .1) (omega arith)))

@@ -1,8 +1,7 @@
--- `high_8` meets its contract: no byte is above the `|` of all.
+-- `high_8` meets its contract: the `|` of all bytes is high where one of them is.
 -- Assumes nothing.
 use borrow.Author.Needs.{needs}
-use borrow.Author.Tests.{ltb-false}
-use Rattle.text.proofs.Ascii.{none-high}
+use Rattle.text.proofs.Ascii.{all-asked}
 use Rattle.text.proofs.high_8.Statement.{statement}
 use Rattle.text.proofs.high_8.Tie as tie
 
@@ -19,4 +18,4 @@ high-8-spec =
     (λ c. search needs) (λ c. search needs)
     (λ c. search needs) (λ c. search needs)
     (λ c. search needs) (λ c. search needs)
-    (λ c e. none-high _ 7 (ltb-false _ _ e)))
+    (λ c. all-asked _ 7))

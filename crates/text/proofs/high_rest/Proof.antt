@@ -2,14 +2,12 @@
 -- Assumes nothing.
 use native.Mathlib.Omega.{arith}
 use borrow.Author.Needs.{needs}
-use Rattle.text.proofs.Ascii.{neither, joined, shorter}
+use Rattle.text.proofs.Ascii.{either, ends}
 use Rattle.text.proofs.high_rest.Statement.{statement}
 use Rattle.text.proofs.high_rest.Tie as tie
 
 returns-2 : tie.Need-returns-2
-returns-2 c e =
-    let n = neither _ _ e in
-    shorter (joined (c .before .high-8 .ensures (n .0)) (c .high-82 .ensures (n .1)) (omega arith)) (omega arith)
+returns-2 c = either (c .before .high-8 .ensures) (c .high-82 .ensures) (omega arith) (omega arith) (omega arith) (omega arith)
 
 pub high-rest-spec : {M : Type 1} → statement M
 high-rest-spec =
@@ -17,8 +15,8 @@ high-rest-spec =
     (tie.spec
     (λ c. search needs)
     (λ c κs. search needs)
-    (λ c e. shorter (c .any-high .ensures e) (omega arith))
+    (λ c. ends (c .any-high .ensures) (omega arith))
     (λ c κs. search needs) (λ c. search needs) (λ c κs. search needs)
     returns-2
     (λ c κs. search needs)
-    (λ c e. shorter (c .any-high2 .ensures e) (omega arith)))
+    (λ c. ends (c .any-high2 .ensures) (omega arith)))

@@ -9,7 +9,7 @@ use Rattle.text.proofs.is_utf8.Tie as tie
 returns : tie.Need-returns
 returns c =
     let front = c .before .past-ascii .ensures in
-    c .all-characters .ensures ∙ sym (in-front _ (front .0) (front .1))
+    c .all-characters .ensures ∙ sym (in-front _ (front .inside) (front .before))
 
 pub is-utf8-spec : {M : Type 1} → statement M
 is-utf8-spec = tie.close (tie.spec (λ c κs. search needs) (λ c κs. search needs) returns)

@@ -3,8 +3,7 @@
 use mathlib.Core.Path.{refl}
 use native.Mathlib.Omega.{arith}
 use borrow.Author.Needs.{needs}
-use Rattle.rfc.proofs.Text.{lead-00-7f, lead-80-c1, lead-c2-df, lead-e0, lead-ed, begun}
-use Rattle.text.proofs.Leads.{lead-e1-ef}
+use Rattle.rfc.proofs.Text.{lead-00-7f, lead-80-c1, lead-c2-df, lead-e0, lead-ed, lead-e1-ef, begun}
 use Rattle.text.proofs.Widths.{none-there, one-there}
 use Rattle.text.proofs.width_at.Statement.{statement}
 use Rattle.text.proofs.width_at.Tie as tie

@@ -1,4 +1,4 @@
--- `passed` meets its contract, case by case.
+-- `passed` meets its contract, case by case; that no option comes is what it requires.
 -- Assumes nothing.
 use borrow.Author.Needs.{needs}
 use Rattle.whole.proofs.passed.Statement.{statement}
@@ -15,4 +15,4 @@ passed-spec =
     (λ c. rw (c .before .found .given .1))
     (λ c. rw (c .before .found2 .given .1))
     (λ c. rw (c .before .found3 .given .1))
-    (λ c. search needs))
+    (λ c. absurd (rw (c .enum-told .given .1) at (c .before .before .pre))))

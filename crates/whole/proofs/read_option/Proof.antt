@@ -2,7 +2,7 @@
 -- Assumes nothing.
 use Rattle.values.proofs.Cases.{is-value, is-refused}
 use Rattle.values.specs.Reading.{modeOf}
-use Rattle.whole.proofs.Answers.{passes-on, not-read, is-read}
+use Rattle.whole.proofs.Answers.{no-option, passes-on, not-read, is-read}
 use borrow.Author.Needs.{needs}
 use Rattle.whole.proofs.read_option.Statement.{statement}
 use Rattle.whole.proofs.read_option.Tie as tie
@@ -10,7 +10,7 @@ use Rattle.whole.proofs.read_option.Tie as tie
 returns : tie.Need-returns
 returns c =
     let a = c .before .before .before .before .args in
-    rw (c .passed .ensures) (passes-on (modeOf (a .strict)) (a .area .now) (a .join .now) (a .found) (c .before .match .keys2))
+    passes-on (modeOf (a .strict)) (a .area .now) (a .join .now) (a .found) _ (c .passed .ensures)
 
 returns-2 : tie.Need-returns-2
 returns-2 c =
@@ -29,7 +29,7 @@ read-option-spec =
     tie.close
     (tie.spec
     (λ c. search needs)
-    (λ c κs. search needs)
+    (λ c κs. no-option (c .before .before .before .args .found) (c .match .keys2))
     returns
     (λ c κs. search needs)
     (λ c κs. search needs)
