@@ -7,12 +7,14 @@ use mathlib.Core.List.{List, [], _∷_, _++_, append-nil}
 use lib.ListN.{length, drop, length-append, length-drop}
 use Rattle.facts.specs.Over.{over}
 use Rattle.facts.proofs.Over.{from-over}
-use Rattle.rfc.specs.Numbers.{Answer, given, refused, mostBytes, mostValue}
+use Rattle.rfc.specs.Numbers.{Answer, given, refused, needs, mostBytes, mostValue}
 use Rattle.rfc.specs.Walk as walk
 use Rattle.rfc.specs.Walk.{step, joinAfter}
+use Rattle.rfc.specs.Writing.{close}
 use Rattle.rfc.specs.Lists.{Opt, Valid, encodeAll, Made, finished, writeAll}
-use Rattle.rfc.proofs.Lists.{all-goes-on, all-ends-at, all-closes, all-not-closed, writes-all, at-end, at-option}
+use Rattle.rfc.proofs.Lists.{all-goes-on, all-ends-at, all-closes, all-not-closed, writes-all, at-end, First, at-option}
 use Rattle.rfc.proofs.Walk.{length-joined}
+use Rattle.encoder.specs.Written.{Wrote}
 use Rattle.encoder.specs.declared.Written.{Written}
 use Rattle.encoder.specs.declared.Written.the-variants as written
 use Rattle.borrowed.specs.Walked.{stopOf, says, Stepped}
@@ -28,15 +30,88 @@ made (written.To to) room = finished room to
 made (written.Refused k) room = refused k
 
 -- the calls do what `writeAll` says
+closes-as : (room room′ : List ℕ) (place : ℕ) (r : Written) → Wrote (close room place) room room′ place r
+    → writeAll [] room place ≡ made r room′
+closes-as room room′ place (written.To to) w = all-closes room place (sym (w .told)) (sym (w .left))
+closes-as room room′ place (written.Refused k) w = all-not-closed room place (sym (w .told))
+
 does-all : {os : List Opt} {room room′ : List ℕ} {place : ℕ} {r : Written} → WritesAll os room place room′ r
     → writeAll os room place ≡ made r room′
-does-all (closes {room} {room′} {place} {written.To to} w) = all-closes room place (sym (w .told)) (sym (w .left))
-does-all (closes {room} {room′} {place} {written.Refused k} w) = all-not-closed room place (sym (w .told))
-does-all (goes-on {o} {os} {room} {room₁} {room′} {place} w more) =
-    all-goes-on room place o os (sym (w .told)) (sym (w .left)) ∙ does-all more
-does-all (ends {o} {os} {room} {room′} {place} w) = all-ends-at room place o os (sym (w .told))
+does-all (closes w) = closes-as _ _ _ _ w
+does-all (goes-on w more) = all-goes-on _ _ _ _ (sym (w .told)) (sym (w .left)) ∙ does-all more
+does-all (ends w) = all-ends-at _ _ _ _ (sym (w .told))
 
 -- so a run that makes something ends with its place, and leaves its room
+abbrev madeIn : Made → Answer Made → Made
+madeIn other (given m) = m
+madeIn other (refused k) = other
+madeIn other (needs n) = other
+
 made-is : (r : Written) (room room′ : List ℕ) (to : ℕ) → made r room ≡ finished room′ to → (r ≡ written.To to) × (room ≡ room′)
-made-is (written.To at) room room′ to e = (cc, cc)
+made-is (written.To at) room room′ to e =
+    let m : Made = record { room = room; place = at } in
+    (ap (λ (a : Answer Made). written.To (madeIn m a .place)) e, ap (λ (a : Answer Made). madeIn m a .room) e)
 made-is (written.Refused k) room room′ to e = absurd (let z : _≡_ {A = ℕ} 0 1 = cc in omega arith)
+
+-- what a call found, by its code and its value
+module _ {c d n m at to : ℕ} {v w : List ℕ} (e : _≡_ {A = Answer walk.Found} (given (walk.option c v n at)) (given (walk.option d w m to))) where
+  same-code : c ≡ d
+  same-code = cc
+
+  same-value : v ≡ w
+  same-value = cc
+
+-- The walk, over an area where the list's bytes begin at a place
+module _ (area rest : List ℕ) (short : length area ≤ mostBytes) where
+  -- the calls have come to a place and a join buffer, with these options of the list left
+  record Left (os sofar : List Opt) (end at : ℕ) (join : List ℕ) : Type 0 where
+    pub left : List Opt
+    pub split : os ≡ sofar ++ left
+    pub valid : Valid left
+    pub within : at ≤ length area
+    pub here : drop at area ≡ encodeAll left ++ rest
+    pub ends-there : at + length (encodeAll left) ≡ end
+    pub joins : mostValue ≤ length join
+
+  -- a call that finds an option there finds the list's first
+  module _ {place : ℕ} {join join₁ : List ℕ} (within : place ≤ length area) (joins : mostValue ≤ length join) where
+    no-option : {code parts len to : ℕ} → drop place area ≡ encodeAll [] ++ rest → Stepped area place join join₁ (Found code parts len to) → ⊥
+    no-option here s =
+        let e = s .told ∙ at-end area rest (length join) short joins place within here in let z : _≡_ {A = ℕ} 0 1 = cc in omega arith
+
+    module _ {o : Opt} {os : List Opt} {code parts len to : ℕ} (v : Valid (o ∷ os)) (here : drop place area ≡ encodeAll (o ∷ os) ++ rest)
+        (s : Stepped area place join join₁ (Found code parts len to)) where
+      first : First area rest (length join) short joins o os place
+      first = at-option area rest (length join) short joins o os place v within here
+
+      the-option : foundBy code parts len to area join₁ ≡ o
+      the-option = let e = s .told ∙ first .finds in λ i. record { code = same-code e i; value = same-value e i }
+
+      the-place : to ≡ first .to
+      the-place = let e = s .told ∙ first .finds in cc
+
+      joins-on : mostValue ≤ length join₁
+      joins-on =
+          omega (arith, ap length (s .kept ∙ ap (λ (a : Answer walk.Found). joinAfter a join) (first .finds)),
+          length-joined join (o .code) (o .value) (first .parts) (first .to) (omega (arith, v .0 .most, joins)), joins)
+
+  steps-left : (os : List Opt) {sofar : List Opt} {place at : ℕ} {join join′ : List ℕ} → StepsTo area place join sofar at join′
+      → Valid os → place ≤ length area → drop place area ≡ encodeAll os ++ rest → mostValue ≤ length join
+      → Left os sofar (place + length (encodeAll os)) at join′
+  steps-left os none v within here joins =
+      record { left = os; split = refl; valid = v; within = within; here = here; ends-there = refl; joins = joins }
+  steps-left [] (one s more) v within here joins = absurd (no-option within joins here s)
+  steps-left (o ∷ os) (one s more) v within here joins =
+      let f = first within joins v here s in
+      let to = the-place within joins v here s in
+      let l =
+      steps-left os more (v .2) (omega (arith, f .within, to)) (ap (λ (k : ℕ). drop k area) to ∙ f .more) (joins-on within joins v here s) in
+      record {
+        left = l .left;
+        split = λ i. sym (the-option within joins v here s) i ∷ l .split i;
+        valid = l .valid;
+        within = l .within;
+        here = l .here;
+        ends-there = omega (arith, l .ends-there, f .ends, to);
+        joins = l .joins;
+      }
