@@ -197,6 +197,8 @@ fn the_room_and_the_place_come_before_any_row() {
         assert_eq!(refused_row(rows, 65_536), RowRefused { row: 0, refusal: Refusal::TooLong });
         assert_eq!(refused_row(rows, 1), RowRefused { row: 0, refusal: Refusal::PastEnd });
         assert_eq!(refused_row(rows, 0), RowRefused { row: 0, refusal: Refusal::PastEnd });
+        let both = Writer::at(&mut vec![9; 65_536], 65_537).list(rows, &values());
+        assert_eq!(both, Err(RowRefused { row: 0, refusal: Refusal::TooLong }));
     }
 }
 
