@@ -8,8 +8,8 @@
  * refusal. It needs valid memory and no more: each pointer, which is never NULL, has as many elements as the length
  * behind it says, and what is written to overlaps nothing else that is lent. No pointer is kept.
  *
- * In every answer `refused` is the number of a refusal, 0 for none. Where one is given, all else is 0 and a place is
- * the one that was given, and nothing that was lent is changed.
+ * In every answer `refused` is the number of a refusal, 0 for none. Where one is given, all else is 0, unless it is said
+ * there, a place is the one that was given, and nothing that was lent is changed.
  */
 #ifndef SINDOVALEPH_H
 #define SINDOVALEPH_H
@@ -165,8 +165,8 @@ typedef struct {
     size_t len;
 } SindovalephWriteRow;
 
-/* What a write of rows answers. The first row that is refused ends it; its number is answered where it is the first of
-   all, and else by a further call from there. */
+/* What a write of rows answers: all of them are written, or none. The first row that is refused decides. A refusal says
+   in `rows` which row it is, 0 for the first; 0 too where the room (2) or the place (4) is refused, before any row. */
 typedef struct {
     uint8_t refused;
     size_t rows;  /* how many were written */
@@ -209,7 +209,9 @@ SindovalephWritten sindovaleph_close(uint8_t *room, size_t room_len, size_t plac
 /* Lists the options from a place on, a SindovalephRow for each, until the first stop or until the rows are full. */
 SindovalephListed sindovaleph_list(const uint8_t *area, size_t area_len, size_t place, size_t *rows, size_t numbers);
 
-/* Writes an option for each SindovalephWriteRow, as byte values. */
+/* Writes an option for each SindovalephWriteRow, as byte values, one behind the other: all of them, or none. A row is
+   refused where its value does not stand in `values` (4), by its code (6; above 255 is no code), by its value's length
+   (7), and where it does not fit behind the rows before it (8), in this order. An empty value writes nothing. */
 SindovalephWrittenRows sindovaleph_write_list(uint8_t *room, size_t room_len, size_t place, const size_t *rows,
                                               size_t numbers, const uint8_t *values, size_t values_len);
 

@@ -3,7 +3,7 @@
 //! are. The rest of this crate gives these numbers their types; who wants the plain numbers calls here.
 //!
 //! In every answer `refused` is the number of a refusal ([`Refusal`](crate::Refusal)), 0 for none. Where one is given,
-//! all else is 0, and a place is the one that was given.
+//! all else is 0, unless it is said there, and a place is the one that was given.
 
 /// All fields of the fixed header.
 #[repr(C)]
@@ -173,14 +173,14 @@ pub struct WriteRow {
     pub len: usize,
 }
 
-/// What a write of rows answers. The first row that is refused ends it; its number is answered where it is the first of
-/// all, and else by a further call from there.
+/// What a write of rows answers: all of them are written, or none. The first row that is refused decides.
 #[repr(C)]
 #[derive(Clone, Copy, Debug, PartialEq, Eq)]
 pub struct WrittenRows {
     /// The refusal, 0 for none.
     pub refused: u8,
-    /// How many rows were written.
+    /// How many rows were written. A refusal says here which row it is, 0 for the first; 0 too where the room or the
+    /// place is refused, before any row.
     pub rows: usize,
     /// The place behind them.
     pub place: usize,
@@ -392,7 +392,7 @@ pub fn read_list(area: &[u8], place: usize, rows: &mut [ReadRow], strict: bool) 
     unsafe { sindovaleph_read_list(area.as_ptr(), area.len(), place, rows.as_mut_ptr().cast(), count, strict) }
 }
 
-/// An option for each row, with its value out of `values`.
+/// An option for each row, with its value out of `values`: all of them, or none.
 #[inline]
 pub fn write_list(room: &mut [u8], place: usize, rows: &[WriteRow], values: &[u8]) -> WrittenRows {
     let (count, rows) = (numbers(rows), rows.as_ptr().cast());

@@ -107,7 +107,8 @@
 //! # Ok::<(), Refusal>(())
 //! ```
 //!
-//! [`Writer::at`] writes behind a header that stands in the room, from 240 on.
+//! [`Writer::at`] writes behind a header that stands in the room, from 240 on. [`Writer::list`] writes many options in
+//! one call: all of them, or none where a row is refused, which [`RowRefused`] names.
 //!
 //! # From dhcproto to sindovaleph
 //!
@@ -184,7 +185,7 @@ pub mod writer;
 
 pub use message::{Message, xid};
 pub use options::{Ending, Opt, Options, Stop};
-pub use refusal::Refusal;
+pub use refusal::{Refusal, RowRefused};
 pub use rows::{Listed, ReadRow, Row, list, read_list};
 pub use value::{Element, Elements, Kind, List, NodeType, Value, element, kind_of, read, read_strict};
 pub use writer::{Route, WriteRow, Writer};

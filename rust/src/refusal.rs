@@ -11,7 +11,8 @@ numbered! {
         TooLong = 2,
         /// `hlen` says that chaddr has more bytes than the message has from byte 28 on.
         ChaddrPastEnd = 3,
-        /// A place is past the end, or an element's index is not below the count.
+        /// A place is past the end, an element's index is not below the count, or a row's value does not stand in the
+        /// values.
         PastEnd = 4,
         /// An option of two or more parts is longer than the room to join it in.
         JoinTooShort = 5,
@@ -58,6 +59,30 @@ impl fmt::Display for Refusal {
 }
 
 impl core::error::Error for Refusal {}
+
+/// Which row is refused of those that one call was to write, and why. Nothing is written then.
+#[derive(Clone, Copy, Debug, PartialEq, Eq)]
+pub struct RowRefused {
+    /// The row's index, 0 for the first; 0 too where the room or the place is refused, before any row.
+    pub row: usize,
+    /// Why it is refused.
+    pub refusal: Refusal,
+}
+
+impl fmt::Display for RowRefused {
+    fn fmt(&self, f: &mut fmt::Formatter<'_>) -> fmt::Result {
+        write!(f, "row {} is refused: {}", self.row, self.refusal)
+    }
+}
+
+impl core::error::Error for RowRefused {}
+
+impl From<RowRefused> for Refusal {
+    #[inline]
+    fn from(refused: RowRefused) -> Refusal {
+        refused.refusal
+    }
+}
 
 /// What a number that crossed the boundary says: 0 is no refusal, and none is above 14.
 #[inline]

@@ -3,7 +3,7 @@
 pub use crate::calls::{Route, WriteRow};
 
 use crate::calls::{self, Written};
-use crate::refusal::{Refusal, checked};
+use crate::refusal::{Refusal, RowRefused, checked};
 use crate::value::NodeType;
 use core::net::Ipv4Addr;
 
@@ -163,13 +163,35 @@ impl<'a> Writer<'a> {
         self.moved(written)
     }
 
-    /// An option for each row, as byte values out of `values`, and how many were written. The first row that is refused
-    /// ends it: where it is the first of all its refusal is answered, and else a further call with the rows that are
-    /// left tells it.
+    /// An option for each row, as byte values out of `values`: all of them, or none. The answer is how many there are.
+    ///
+    /// The first row that is refused decides, as if each were written behind the one before. [`RowRefused`] has its
+    /// index; the room and the place are as they were. A row is [`Refusal::PastEnd`] where its value does not stand in
+    /// `values`.
+    ///
+    /// ```
+    /// use sindovaleph::{Refusal, RowRefused, WriteRow, Writer};
+    ///
+    /// let mut rows = [WriteRow::new(53, 0, 1), WriteRow::new(255, 1, 4), WriteRow::new(12, 5, 4)];
+    /// let values = [5, 0, 0, 14, 16, 104, 111, 115, 116];
+    /// let mut room = [9; 16];
+    /// let mut writer = Writer::at(&mut room, 1);
+    /// assert_eq!(writer.list(&rows, &values), Err(RowRefused { row: 1, refusal: Refusal::NoSuchCode }));
+    /// assert_eq!(writer.place(), 1);
+    /// assert_eq!(room, [9; 16]);
+    ///
+    /// rows[1] = WriteRow::new(51, 1, 4);
+    /// let mut writer = Writer::new(&mut room);
+    /// writer.list(&rows, &values)?;
+    /// writer.close()?;
+    /// assert_eq!(writer.written(), [53, 1, 5, 51, 4, 0, 0, 14, 16, 12, 4, 104, 111, 115, 116, 255]);
+    /// # Ok::<(), Refusal>(())
+    /// ```
     #[inline]
-    pub fn list(&mut self, rows: &[WriteRow], values: &[u8]) -> Result<usize, Refusal> {
+    pub fn list(&mut self, rows: &[WriteRow], values: &[u8]) -> Result<usize, RowRefused> {
         let written = calls::write_list(self.room, self.place, rows, values);
-        self.moved(Written { refused: written.refused, place: written.place })?;
+        let answer = Written { refused: written.refused, place: written.place };
+        self.moved(answer).map_err(|refusal| RowRefused { row: written.rows, refusal })?;
         Ok(written.rows)
     }
 

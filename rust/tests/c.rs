@@ -1,5 +1,5 @@
 //! The header for C and C++: it compiles by itself without a warning, its numbers are those of this crate, and the
-//! example walks.
+//! examples walk and write.
 
 mod common;
 
@@ -109,19 +109,34 @@ fn the_names_of_the_header_have_the_same_numbers() {
     compiles(c_compiler().arg("-std=c11"), "numbers.c", &text);
 }
 
-#[test]
-fn the_example_walks() {
-    let program = scratch("walk", "");
+/// What an example prints, linked with these archives.
+fn printed_by(example: &str, archives: &[&str]) -> String {
+    let program = scratch(example, "");
     let mut compiler = c_compiler();
-    compiler.args(WARNINGS).arg("-I").arg(here("include")).arg(here("examples/walk.c"));
-    compiler.arg(Path::new(env!("SINDOVALEPH_FOLDER")).join("libsindovaleph.a")).arg("-o").arg(&program);
-    succeeded(&mut compiler);
+    compiler.args(WARNINGS).arg("-I").arg(here("include")).arg(here(&format!("examples/{example}.c")));
+    compiler.args(archives.iter().map(|name| Path::new(env!("SINDOVALEPH_FOLDER")).join(name)));
+    succeeded(compiler.arg("-o").arg(&program));
     let runner = "CARGO_TARGET_X86_64_UNKNOWN_LINUX_GNU_RUNNER";
     let path = program.to_string_lossy();
     let mut run = command(runner, &path);
     if env::var(runner).is_ok_and(|words| !words.trim().is_empty()) {
         run.arg(&program);
     }
-    let output = succeeded(&mut run);
-    assert_eq!(String::from_utf8_lossy(&output.stdout), "option 53 has 1 bytes\noption 12 has 4 bytes\nstop 2 at 12\n");
+    String::from_utf8_lossy(&succeeded(&mut run).stdout).into_owned()
+}
+
+#[test]
+fn the_example_walks() {
+    let printed = printed_by("walk", &["libsindovaleph.a"]);
+    assert_eq!(printed, "option 53 has 1 bytes\noption 12 has 4 bytes\nstop 2 at 12\n");
+}
+
+#[test]
+fn the_example_writes_all_rows_or_none() {
+    let printed = printed_by("rows", &["libsindovaleph_rows.a", "libsindovaleph.a"]);
+    let untouched = " 9".repeat(18);
+    let first = format!("row 1 is refused by 6, place 2:{untouched}\n");
+    let second = format!("row 2 is refused by 8, place 2:{untouched}\n");
+    let third = "3 rows are written, place 17: 9 9 53 1 5 51 4 0 0 14 16 12 4 104 111 115 116 9\n";
+    assert_eq!(printed, first + &second + third);
 }

@@ -440,9 +440,10 @@ fn tables_cross() {
         WriteRow { code: 256, start: 0, len: 1 },
     ];
     let mut room = [0xEE; 16];
-    assert_eq!(write_list(&mut room, 3, &rows, &[7, 8, 9]), WrittenRows { refused: 0, rows: 2, place: 12 });
+    assert_eq!(write_list(&mut room, 3, &rows, &[7, 8, 9]), WrittenRows { refused: 6, rows: 2, place: 3 });
+    assert_eq!(room, [0xEE; 16]);
+    assert_eq!(write_list(&mut room, 3, &rows[..2], &[7, 8, 9]), WrittenRows { refused: 0, rows: 2, place: 12 });
     assert_eq!(room[2..13], [0xEE, 12, 2, 8, 9, 200, 3, 7, 8, 9, 0xEE]);
-    assert_eq!(write_list(&mut room, 12, &rows[2..], &[7]), WrittenRows { refused: 6, rows: 0, place: 12 });
 }
 
 #[test]

@@ -1,6 +1,7 @@
 //! The refusals by their numbers.
 
 use sindovaleph::Refusal::{self, *};
+use sindovaleph::RowRefused;
 use std::collections::BTreeSet;
 use std::error::Error;
 
@@ -42,4 +43,15 @@ fn it_is_an_error_of_one_byte() {
     let error: Box<dyn Error> = Box::new(ChaddrPastEnd);
     assert_eq!(error.to_string(), "the hardware address is longer than the message");
     assert_eq!(size_of::<Result<(), Refusal>>(), 1);
+}
+
+#[test]
+fn a_row_that_is_refused_says_which_and_why() {
+    for refusal in ALL {
+        let refused = RowRefused { row: 3, refusal };
+        assert_eq!(refused.to_string(), format!("row 3 is refused: {refusal}"));
+        assert_eq!(Refusal::from(refused), refusal);
+    }
+    let error: Box<dyn Error> = Box::new(RowRefused { row: 0, refusal: NoSuchCode });
+    assert_eq!(error.to_string(), "row 0 is refused: the codes 0 and 255 have no value");
 }

@@ -2,7 +2,7 @@
 
 mod common;
 
-use sindovaleph::{Message, NodeType, Options, Refusal, Route, Value, WriteRow, Writer};
+use sindovaleph::{Message, NodeType, Options, Refusal, Route, RowRefused, Value, WriteRow, Writer};
 use std::net::Ipv4Addr;
 
 type Write = dyn Fn(&mut Writer) -> Result<(), Refusal>;
@@ -114,22 +114,105 @@ fn long_values_are_written_in_parts() {
     assert_eq!((writer.addresses(3, &[]), writer.u16s(25, &[]), writer.place()), (Ok(()), Ok(()), 514));
 }
 
-#[test]
-fn rows_are_written() {
-    let values = [7, 8, 9];
-    let rows = [WriteRow::new(43, 0, 2), WriteRow::new(200, 1, 2), WriteRow::new(201, 2, 2), WriteRow::new(202, 0, 1)];
-    let mut room = [9; 12];
+/// Options of 4, 0, 5 and 262 bytes out of values of 5,000.
+const ROWS: [WriteRow; 4] =
+    [WriteRow::new(43, 0, 2), WriteRow::new(44, 5_000, 0), WriteRow::new(200, 1, 3), WriteRow::new(43, 2, 258)];
+
+/// What the values of 5,000 bytes are.
+fn values() -> Vec<u8> {
+    (0..5_000).map(|i| i as u8).collect()
+}
+
+/// Rows that are refused at place 2 of a room of so many bytes: the row that is told. All else stays as it is.
+fn refused_row(rows: &[WriteRow], len: usize) -> RowRefused {
+    let mut room = vec![9; len];
     let mut writer = Writer::at(&mut room, 2);
-    assert_eq!(writer.list(&rows[..2], &values), Ok(2));
-    assert_eq!((writer.written(), writer.place()), (&[9, 9, 43, 2, 7, 8, 200, 2, 8, 9][..], 10));
-    // The third row's value does not stand in the values.
-    let mut writer = Writer::new(&mut room);
-    assert_eq!(writer.list(&rows, &values), Ok(2));
-    assert_eq!(writer.list(&rows[2..], &values), Err(Refusal::PastEnd));
-    assert_eq!((writer.place(), writer.list(&[], &values)), (8, Ok(0)));
-    assert_eq!(writer.list(&[WriteRow::new(255, 0, 1)], &values), Err(Refusal::NoSuchCode));
-    assert_eq!(writer.list(&[WriteRow::new(1, 0, 3)], &values), Err(Refusal::NoRoom));
-    assert_eq!(writer.place(), 8);
+    let refused = writer.list(rows, &values()).unwrap_err();
+    assert_eq!(writer.place(), 2);
+    assert_eq!(room, vec![9; len]);
+    refused
+}
+
+#[test]
+fn rows_are_written_one_behind_the_other() {
+    let mut room = [9; 300];
+    let mut writer = Writer::at(&mut room, 2);
+    assert_eq!(writer.list(&[], &values()), Ok(0));
+    assert_eq!((writer.list(&ROWS[..3], &values()), writer.place()), (Ok(3), 11));
+    assert_eq!(writer.written(), [9, 9, 43, 2, 0, 1, 200, 3, 1, 2, 3]);
+    assert_eq!((writer.list(&ROWS[3..], &values()), writer.place()), (Ok(1), 273));
+    let part: Vec<u8> = (2..=255).chain([0]).collect();
+    assert_eq!((&room[11..13], &room[13..268]), (&[43, 255][..], &part[..]));
+    assert_eq!(room[268..], [&[43, 3, 1, 2, 3][..], &[9; 27]].concat());
+}
+
+#[test]
+fn a_refused_row_is_named_and_nothing_is_written() {
+    let bad = [
+        (WriteRow::new(43, 5_000, 1), Refusal::PastEnd),
+        (WriteRow::new(43, 5_001, 0), Refusal::PastEnd),
+        (WriteRow::new(43, usize::MAX, usize::MAX), Refusal::PastEnd),
+        (WriteRow::new(0, 0, 1), Refusal::NoSuchCode),
+        (WriteRow::new(255, 0, 0), Refusal::NoSuchCode),
+        (WriteRow { code: 256 + 43, start: 0, len: 1 }, Refusal::NoSuchCode),
+        (WriteRow::new(43, 0, 4_081), Refusal::ValueTooLong),
+        (WriteRow::new(43, 0, 300), Refusal::NoRoom),
+        // What comes first is told.
+        (WriteRow::new(0, 0, 5_001), Refusal::PastEnd),
+        (WriteRow::new(0, 0, 4_081), Refusal::NoSuchCode),
+    ];
+    for (wrong, refusal) in bad {
+        for row in 0..ROWS.len() {
+            let mut rows = ROWS;
+            rows[row] = wrong;
+            assert_eq!(refused_row(&rows, 300), RowRefused { row, refusal }, "{rows:?}");
+            // The first of two decides.
+            rows[3] = if row < 3 { WriteRow::new(0, 5_001, 0) } else { wrong };
+            assert_eq!(refused_row(&rows, 300), RowRefused { row, refusal }, "{rows:?}");
+        }
+    }
+}
+
+#[test]
+fn rows_fit_exactly_or_the_first_that_does_not_is_named() {
+    let mut room = vec![9; 273];
+    assert_eq!(Writer::at(&mut room, 2).list(&ROWS, &values()), Ok(4));
+    assert!(room.ends_with(&[255, 0, 43, 3, 1, 2, 3]));
+    let no_room = |row| RowRefused { row, refusal: Refusal::NoRoom };
+    assert_eq!(refused_row(&ROWS, 272), no_room(3));
+    assert_eq!(refused_row(&ROWS, 11), no_room(3));
+    assert_eq!(refused_row(&ROWS, 10), no_room(2));
+    assert_eq!(refused_row(&ROWS, 6), no_room(2));
+    assert_eq!(refused_row(&ROWS, 5), no_room(0));
+    assert_eq!(refused_row(&ROWS, 2), no_room(0));
+    // An empty value needs no room.
+    let mut writer = Writer::at(&mut room, 273);
+    assert_eq!((writer.list(&[ROWS[1]; 3], &values()), writer.place()), (Ok(3), 273));
+}
+
+#[test]
+fn the_room_and_the_place_come_before_any_row() {
+    let wrong = [WriteRow::new(0, 0, 1); 2];
+    for rows in [&[], &ROWS[..], &wrong] {
+        assert_eq!(refused_row(rows, 65_536), RowRefused { row: 0, refusal: Refusal::TooLong });
+        assert_eq!(refused_row(rows, 1), RowRefused { row: 0, refusal: Refusal::PastEnd });
+        assert_eq!(refused_row(rows, 0), RowRefused { row: 0, refusal: Refusal::PastEnd });
+        let both = Writer::at(&mut vec![9; 65_536], 65_537).list(rows, &values());
+        assert_eq!(both, Err(RowRefused { row: 0, refusal: Refusal::TooLong }));
+    }
+}
+
+#[test]
+fn a_row_that_is_refused_is_passed_on_as_a_refusal() {
+    let write = |room: &mut [u8], rows: &[WriteRow]| -> Result<usize, Refusal> {
+        let mut writer = Writer::new(room);
+        writer.list(rows, &values())?;
+        writer.close()?;
+        Ok(writer.place())
+    };
+    assert_eq!(write(&mut [0; 10], &ROWS[..3]), Ok(10));
+    assert_eq!(write(&mut [0; 9], &ROWS[..3]), Err(Refusal::NoRoom));
+    assert_eq!(write(&mut [0; 10], &[ROWS[0], WriteRow::new(255, 0, 1)]), Err(Refusal::NoSuchCode));
 }
 
 #[test]

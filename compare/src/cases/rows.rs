@@ -4,14 +4,14 @@ use super::Bench;
 use super::writes::rooms;
 use crate::findings::Bytes;
 use crate::paper::{self, Found, MOST_BYTES};
-use sindovaleph::calls::{self, ReadRow, Row, WriteRow};
+use sindovaleph::calls::{self, ReadRow, Row, WriteRow, WrittenRows};
 use std::fmt::Arguments;
 
 /// The most rows that any call here is lent.
 pub(super) const MOST_ROWS: usize = MOST_BYTES / 2 + 2;
 
-/// A room that two of the longest values fit in.
-const LARGE_ROOM: usize = 10_000;
+/// A room that two of the longest values fit in, and a place in it.
+const LARGE_ROOM: (usize, usize) = (10_000, 3);
 
 /// Rows that no call answers, different at every place.
 pub(super) fn row_pattern(at: usize) -> Row {
@@ -79,24 +79,27 @@ impl Bench {
         }
     }
 
-    /// Rows written into one room. The answer is how many bytes were written.
-    pub fn write_list_into(&mut self, rows: &[WriteRow], values: &[u8], (room, place): (usize, usize)) -> usize {
+    /// Rows written into one room.
+    pub fn write_list_into(&mut self, rows: &[WriteRow], values: &[u8], (room, place): (usize, usize)) -> WrittenRows {
         let ours = calls::write_list(self.room.library(room), place, rows, values);
         let said = paper::write_list(self.room.paper(room), place, rows, values);
         let call = format_args!("write_list of {rows:?} of {} at {place} of a room of {room}", Bytes(values));
         self.same(call, &ours, &said);
-        let written = if said.rows > 0 { place..said.place } else { 0..0 };
-        let len = written.len();
+        let written = if said.refused == 0 { place..said.place } else { 0..0 };
         if !self.room.settle(written, room) {
             self.findings.unexplained(call, format_args!("the room holds other bytes than document 01 says"));
         }
-        len
+        said
     }
 
-    /// Rows written: into a large room, and into several around what was written there.
+    /// Rows written: into a large room, and into several around what they take, or what those take that stand before a
+    /// refused one.
     pub fn write_list(&mut self, rows: &[WriteRow], values: &[u8]) {
-        let bytes = self.write_list_into(rows, values, (LARGE_ROOM, 3));
-        for room in rooms(bytes) {
+        let mut said = self.write_list_into(rows, values, LARGE_ROOM);
+        if said.refused > 0 {
+            said = self.write_list_into(&rows[..said.rows], values, LARGE_ROOM);
+        }
+        for room in rooms(said.place - LARGE_ROOM.1) {
             self.write_list_into(rows, values, room);
         }
     }

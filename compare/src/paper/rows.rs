@@ -2,7 +2,7 @@
 
 use super::writing::{MOST_PART, in_parts, put, room_refusal};
 use super::{END, Found, MOST_BYTES, MOST_VALUE, PAD, find, first_refusal, read};
-use sindovaleph::calls::{Listed, ReadRow, Row, Value, WriteRow, Written, WrittenRows};
+use sindovaleph::calls::{Listed, ReadRow, Row, Value, WriteRow, WrittenRows};
 
 /// The rows from a place on, up to the first stop or until the rows are full. `row` makes one, of an option and of where its first part begins.
 fn fill<R>(area: &[u8], place: usize, rows: &mut [R], row: impl Fn(usize, Row) -> R) -> Listed {
@@ -39,35 +39,32 @@ pub fn read_list(area: &[u8], place: usize, rows: &mut [ReadRow], strict: bool) 
     })
 }
 
-/// The write of one row, behind those that are written.
-fn write_row(room: &mut [u8], place: usize, row: &WriteRow, values: &[u8]) -> Written {
-    let value = row.start.checked_add(row.len).and_then(|end| values.get(row.start..end));
-    let code = u8::try_from(row.code).ok().filter(|&code| code != PAD && code != END);
-    match (value, code) {
-        (None, _) => Written { refused: 4, place },
-        (_, None) => Written { refused: 6, place },
-        (Some(value), _) if value.len() > MOST_VALUE => Written { refused: 7, place },
-        (Some(value), Some(code)) => put(room, place, 0, &in_parts(MOST_PART, code, value)),
+/// The bytes of one row, or its refusal, where `left` bytes are left for it.
+fn row_bytes(row: &WriteRow, values: &[u8], left: usize) -> Result<Vec<u8>, u8> {
+    let end = row.start.checked_add(row.len).ok_or(4)?;
+    let value = values.get(row.start..end).ok_or(4)?;
+    let code = u8::try_from(row.code).ok().filter(|&code| code != PAD && code != END).ok_or(6)?;
+    if value.len() > MOST_VALUE {
+        return Err(7);
     }
+    let bytes = in_parts(MOST_PART, code, value);
+    if bytes.len() > left { Err(8) } else { Ok(bytes) }
 }
 
-/// Rows one behind the other. The first that is refused ends it; its number is told where it is the first of all.
+/// All rows one behind the other, or none: the first that is refused is told by its index, and nothing is written.
 pub fn write_list(room: &mut [u8], place: usize, rows: &[WriteRow], values: &[u8]) -> WrittenRows {
     let refused = room_refusal(room, place);
-    let mut written = WrittenRows { refused, rows: 0, place };
     if refused > 0 {
-        return written;
+        return WrittenRows { refused, rows: 0, place };
     }
-    for row in rows {
-        let answer = write_row(room, written.place, row, values);
-        if answer.refused > 0 {
-            let refused = if written.rows == 0 { answer.refused } else { 0 };
-            return WrittenRows { refused, ..written };
+    let mut bytes = Vec::new();
+    for (index, row) in rows.iter().enumerate() {
+        match row_bytes(row, values, room.len() - place - bytes.len()) {
+            Ok(more) => bytes.extend(more),
+            Err(refused) => return WrittenRows { refused, rows: index, place },
         }
-        written.rows += 1;
-        written.place = answer.place;
     }
-    written
+    WrittenRows { refused, rows: rows.len(), place: put(room, place, refused, &bytes).place }
 }
 
 #[cfg(test)]
@@ -76,6 +73,9 @@ mod tests {
 
     /// An option, one of two parts, an empty one of two parts, and End.
     const AREA: [u8; 15] = [53, 1, 5, 12, 1, 65, 12, 1, 66, 43, 0, 43, 0, 255, 1];
+
+    const GOOD: WriteRow = WriteRow { code: 12, start: 1, len: 2 };
+    const EMPTY: WriteRow = WriteRow { code: 254, start: 3, len: 0 };
 
     #[test]
     fn rows_end_at_a_stop_or_where_they_are_full() {
@@ -96,17 +96,59 @@ mod tests {
         assert_eq!((rows[2].refused, rows[2].parts), (0, 2));
     }
 
+    fn written(refused: u8, rows: usize, place: usize) -> WrittenRows {
+        WrittenRows { refused, rows, place }
+    }
+
     #[test]
-    fn a_refused_row_is_told_where_it_is_the_first() {
-        let good = WriteRow { code: 12, start: 1, len: 2 };
-        let wrong = WriteRow { code: 255, ..good };
-        let mut room = [0; 6];
-        let written = |refused, rows, place| WrittenRows { refused, rows, place };
-        assert_eq!(write_list(&mut room, 1, &[wrong, good], b"abc"), written(6, 0, 1));
-        assert_eq!(write_list(&mut room, 1, &[good, wrong], b"abc"), written(0, 1, 5));
-        assert_eq!(write_list(&mut room, 1, &[good, good], b"abc"), written(0, 1, 5));
-        assert_eq!(room, [0, 12, 2, b'b', b'c', 0]);
-        assert_eq!(write_list(&mut room, 7, &[], b"abc"), written(4, 0, 7));
-        assert_eq!(write_list(&mut room, 0, &[WriteRow { start: usize::MAX, ..good }], b"abc"), written(4, 0, 0));
+    fn rows_are_written_one_behind_the_other() {
+        let mut room = [0; 10];
+        assert_eq!(write_list(&mut room, 1, &[], b"abc"), written(0, 0, 1));
+        assert_eq!(write_list(&mut room, 1, &[GOOD, EMPTY, GOOD], b"abc"), written(0, 3, 9));
+        assert_eq!(room, [0, 12, 2, b'b', b'c', 12, 2, b'b', b'c', 0]);
+        assert_eq!(write_list(&mut room, 10, &[EMPTY, EMPTY], b"abc"), written(0, 2, 10));
+    }
+
+    #[test]
+    fn the_first_refused_row_is_told_and_nothing_is_written() {
+        let values = [7; 4_082];
+        let row = |code, start, len| WriteRow { code, start, len };
+        let wrong = [
+            (row(0, 4_083, 0), 4),
+            (row(12, 1, 4_082), 4),
+            (row(12, usize::MAX, 1), 4),
+            (row(0, 0, 4_081), 6),
+            (row(255, 0, 0), 6),
+            (row(268, 0, 1), 6),
+            (row(12, 0, 4_081), 7),
+            (row(12, 0, 8), 8),
+        ];
+        let mut room = [0; 10];
+        for (wrong, refused) in wrong {
+            for (rows, index) in [([wrong, GOOD, EMPTY], 0), ([EMPTY, wrong, wrong], 1), ([GOOD, EMPTY, wrong], 2)] {
+                assert_eq!(write_list(&mut room, 1, &rows, &values), written(refused, index, 1), "{rows:?}");
+            }
+        }
+        assert_eq!(room, [0; 10]);
+    }
+
+    #[test]
+    fn rows_fit_behind_each_other_or_the_first_that_does_not_is_told() {
+        let rows = [GOOD, GOOD, EMPTY];
+        let mut room = [0; 9];
+        assert_eq!(write_list(&mut room[..8], 1, &rows, b"abc"), written(8, 1, 1));
+        assert_eq!(write_list(&mut room[..5], 1, &rows, b"abc"), written(8, 1, 1));
+        assert_eq!(write_list(&mut room[..4], 1, &rows, b"abc"), written(8, 0, 1));
+        assert_eq!(room, [0; 9]);
+        assert_eq!(write_list(&mut room, 1, &rows, b"abc"), written(0, 3, 9));
+    }
+
+    #[test]
+    fn the_room_and_the_place_come_before_any_row() {
+        let wrong = WriteRow { code: 0, ..GOOD };
+        for rows in [&[][..], &[GOOD], &[wrong, GOOD]] {
+            assert_eq!(write_list(&mut [0; 6], 7, rows, b"abc"), written(4, 0, 7));
+            assert_eq!(write_list(&mut vec![0; MOST_BYTES + 1], 70_000, rows, b"abc"), written(2, 0, 70_000));
+        }
     }
 }

@@ -52,9 +52,9 @@ fn routes(random: &mut Random, bench: &mut Bench) {
     bench.write_routes(&table);
 }
 
-/// Rows of options, most of them right.
+/// Rows of options, most of them right: a wrong one stands at any index.
 pub fn rows(random: &mut Random, bench: &mut Bench) {
-    let most = length(random, 1_500) + 40;
+    let most = length(random, 4_080) + 40;
     let values = bytes(random, most);
     let row = |random: &mut Random| {
         let start = random.below(values.len());
@@ -62,6 +62,7 @@ pub fn rows(random: &mut Random, bench: &mut Bench) {
         match random.below(40) {
             0 => WriteRow { code: random.one_of(&[0, 255, 256, usize::MAX]), start, len },
             1 => WriteRow { code: 12, start, len: values.len() - start + random.below(2) },
+            2 => WriteRow { code: 12, start: 0, len: values.len() },
             _ => WriteRow { code: 1 + random.below(254), start, len },
         }
     };
