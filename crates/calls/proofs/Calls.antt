@@ -79,7 +79,7 @@ module _ (area rest : List ℕ) (short : length area ≤ mostBytes) where
     no-option here s =
         let e = s .told ∙ at-end area rest (length join) short joins place within here in let z : _≡_ {A = ℕ} 0 1 = cc in omega arith
 
-    module _ {o : Opt} {os : List Opt} {code parts len to : ℕ} (v : Valid (o ∷ os)) (here : drop place area ≡ encodeAll (o ∷ os) ++ rest)
+    module _ (o : Opt) (os : List Opt) {code parts len to : ℕ} (v : Valid (o ∷ os)) (here : drop place area ≡ encodeAll (o ∷ os) ++ rest)
         (s : Stepped area place join join₁ (Found code parts len to)) where
       first : First area rest (length join) short joins o os place
       first = at-option area rest (length join) short joins o os place v within here
@@ -102,16 +102,116 @@ module _ (area rest : List ℕ) (short : length area ≤ mostBytes) where
       record { left = os; split = refl; valid = v; within = within; here = here; ends-there = refl; joins = joins }
   steps-left [] (one s more) v within here joins = absurd (no-option within joins here s)
   steps-left (o ∷ os) (one s more) v within here joins =
-      let f = first within joins v here s in
-      let to = the-place within joins v here s in
+      let f = first within joins o os v here s in
+      let to = the-place within joins o os v here s in
       let l =
-      steps-left os more (v .2) (omega (arith, f .within, to)) (ap (λ (k : ℕ). drop k area) to ∙ f .more) (joins-on within joins v here s) in
+      steps-left os more (v .2) (omega (arith, f .within, to)) (ap (λ (k : ℕ). drop k area) to ∙ f .more) (joins-on within joins o os v here s) in
       record {
         left = l .left;
-        split = λ i. sym (the-option within joins v here s) i ∷ l .split i;
+        split = λ i. sym (the-option within joins o os v here s) i ∷ l .split i;
         valid = l .valid;
         within = l .within;
         here = l .here;
         ends-there = omega (arith, l .ends-there, f .ends, to);
         joins = l .joins;
       }
+
+-- the names of the stops: only End is End
+is-end : (s : Stop) → stopOf s ≡ walk.end → s ≡ End
+is-end Out e = cc
+is-end End e = refl
+is-end CutLength e = cc
+is-end CutValue e = cc
+is-end CutContinuation e = cc
+
+-- two answers that are not alike
+module _ {A : Type 0} {s : walk.Stop} {c n at to : ℕ} {v : List ℕ} where
+  option-stop : _≡_ {A = Answer walk.Found} (given (walk.option c v n at)) (given (walk.stop s to)) → A
+  option-stop e = absurd (let z : _≡_ {A = ℕ} 0 1 = cc in omega arith)
+
+-- the area that begins with the list's bytes is listed back
+module _ (options : List Opt) (rest area join : List ℕ) (valid : Valid options) (short : length area ≤ mostBytes)
+    (joins : mostValue ≤ length join) (begins : area ≡ encodeAll options ++ rest) where
+  module _ {sofar : List Opt} {at : ℕ} {join₁ : List ℕ} (steps : StepsTo area 0 join sofar at join₁) where
+    state : Left area rest short options sofar (0 + length (encodeAll options)) at join₁
+    state = steps-left area rest short options steps valid (omega arith) begins joins
+
+    -- the next call's answer: the next option, or the End with none left
+    data Next : Type 0 where
+      ended : (sofar ≡ options) → step area at (length join₁) ≡ given (walk.stop walk.end (length (encodeAll options))) → Next
+      goes : (o : Opt) (os : List Opt) → options ≡ sofar ++ o ∷ os → (parts to : ℕ)
+          → step area at (length join₁) ≡ given (walk.option (o .code) (o .value) parts to) → Next
+
+    next : Next
+    next = go (state .left) refl
+      where
+        go : (left : List Opt) → state .left ≡ left → Next
+        go [] e =
+            let here = state .here ∙ ap (λ (l : List Opt). encodeAll l ++ rest) e in
+            let place : at + length (encodeAll []) ≡ length (encodeAll options) =
+            ap (λ (l : List Opt). at + length (encodeAll l)) (sym e) ∙ state .ends-there ∙ (omega arith) in
+            ended (sym (state .split ∙ ap (λ (l : List Opt). sofar ++ l) e ∙ append-nil sofar))
+            (at-end area rest (length join₁) short (state .joins) at (state .within) here
+            ∙ ap (λ (k : ℕ). given (walk.stop walk.end k)) place)
+        go (o ∷ os) e =
+            let here = state .here ∙ ap (λ (l : List Opt). encodeAll l ++ rest) e in
+            let f = at-option area rest (length join₁) short (state .joins) o os at (subst Valid e (state .valid)) (state .within) here in
+            goes o os (state .split ∙ ap (λ (l : List Opt). sofar ++ l) e) (f .parts) (f .to) (f .finds)
+
+    module _ {join₂ : List ℕ} where
+      finds-next : {code parts len to : ℕ} → Stepped area at join₁ join₂ (Found code parts len to)
+          → (os : List Opt) × (options ≡ sofar ++ foundBy code parts len to area join₂ ∷ os)
+      finds-next {code} {parts} {len} {to} s = go next
+        where
+          go : Next → (os : List Opt) × (options ≡ sofar ++ foundBy code parts len to area join₂ ∷ os)
+          go (ended all e) = option-stop (s .told ∙ e)
+          go (goes o os split n p e) =
+              let f = s .told ∙ e in
+              (os, split ∙ (λ i. sofar ++ record { code = sym (same-code f) i; value = sym (same-value f) i } ∷ os))
+
+      stops-last : {s : Stop} {to : ℕ} → Stepped area at join₁ join₂ (Stopped s to)
+          → (sofar ≡ options) × (s ≡ End) × (to ≡ length (encodeAll options))
+      stops-last {s} {to} r = go next
+        where
+          go : Next → (sofar ≡ options) × (s ≡ End) × (to ≡ length (encodeAll options))
+          go (ended all e) =
+              let f = r .told ∙ e in let is : stopOf s ≡ walk.end = cc in (all, is-end s is, cc)
+          go (goes o os split n p e) = option-stop (sym (r .told ∙ e))
+
+      never-refused : {k : ℕ} → Stepped area at join₁ join₂ (Refused k) → ⊥
+      never-refused {k} r = go next
+        where
+          go : Next → ⊥
+          go (ended all e) = let f = r .told ∙ e in let z : _≡_ {A = ℕ} 0 1 = cc in omega arith
+          go (goes o os split n p e) = let f = r .told ∙ e in let z : _≡_ {A = ℕ} 0 1 = cc in omega arith
+
+      never-needs : {n : ℕ} → Stepped area at join₁ join₂ (Needs n) → ⊥
+      never-needs {n} r = go next
+        where
+          go : Next → ⊥
+          go (ended all e) = let f = r .told ∙ e in let z : _≡_ {A = ℕ} 0 1 = cc in omega arith
+          go (goes o os split m p e) = let f = r .told ∙ e in let z : _≡_ {A = ℕ} 0 1 = cc in omega arith
+
+  lists-back : ListsBack options (length (encodeAll options)) area join
+  lists-back =
+      record {
+        finds = λ steps s. finds-next steps s;
+        stops = λ steps s. stops-last steps s;
+        refuses = λ steps s. never-refused steps s;
+        needs = λ steps s. never-needs steps s;
+      }
+
+pub calls-round-trip : CallsRoundTrip
+calls-round-trip options room room′ behind join place r v short fits all joins calls =
+    let bytes : List ℕ = encodeAll options in
+    let rest : List ℕ = drop (place + length bytes) room in
+    let is = made-is r room′ _ _ (sym (does-all calls) ∙ writes-all options room place v short fits) in
+    let there : drop place room′ ≡ bytes ++ rest = ap (drop place) (is .1) ∙ from-over room place bytes fits in
+    record {
+      told = is .0;
+      left = is .1;
+      walked = lists-back options behind (bytes ++ behind) join v all joins refl;
+      in-the-room =
+          lists-back options rest (drop place room′) join v
+          (omega (arith, ap length there, length-append bytes rest, length-drop (place + length bytes) room)) joins there;
+    }

@@ -101,7 +101,8 @@ next-other code (o ∷ os) rest h d v =
 
 module _ (area rest : List ℕ) (room : ℕ) (short : length area ≤ mostBytes) (joins : mostValue ≤ room) where
   -- the call at the list's End
-  pub at-end : (place : ℕ) → place ≤ length area → drop place area ≡ encodeAll [] ++ rest → step area place room ≡ given (stop end (place + 1))
+  pub at-end : (place : ℕ) → place ≤ length area → drop place area ≡ encodeAll [] ++ rest 
+      → step area place room ≡ given (stop end (place + length (encodeAll [])))
   unfolding encodeAll
   at-end place inside e =
       rw (step-walks area place room short inside, e, walk-end place endCode rest refl) (stop-answered room end (place + 1))
