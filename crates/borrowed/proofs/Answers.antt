@@ -15,7 +15,7 @@ use Rattle.rfc.proofs.Walk.{step-found, step-refused, step-needs, stop-moves, o
 use Rattle.rfc.proofs.Walk.{joined-cut, joined-run, stop-answered, stop-keeps, refused-keeps, needs-keeps}
 use Rattle.rfc.proofs.Walk.{one-answered, one-keeps, many-answered, many-joined, many-needs, look-walks, step-alike}
 use Rattle.rfc.proofs.Places.{Stands, look-stands, whole-at, some-at}
-use Rattle.borrowed.specs.Walked.{values, valuesAt, stopOf, stopBack, sizes, sizeOf, Inside, Walked, Stepped, behind, Starts, Continues, PartsTo, says, placeOf}
+use Rattle.borrowed.specs.Walked.{values, valuesAt, stopOf, stopBack, sizes, sizeOf, Inside, Walked, Stepped, behind, Starts, Continues, PartsTo, shown, says, placeOf}
 use Rattle.borrowed.specs.declared.answer.Stop.{Stop}
 use Rattle.borrowed.specs.declared.answer.Stop.the-variants.{CutContinuation}
 use Rattle.borrowed.specs.declared.answer.Step.{Step}
@@ -136,6 +136,14 @@ module _ (area join : List ℕ) (place : ℕ) where
       → Stepped area place join join′ r
   passes-on at e w = rw (step-alike area place at room e) w
 
+-- an option of one part that stands in an area shows its value
+pub shown-stands : {area : List ℕ} {code : ℕ} {v : List ℕ} {n at : ℕ} → Stands area code v n at → n ≤ 1 → (join : List ℕ)
+    → shown n (length v) at area join ≡ v
+shown-stands {area} {code} {v} {n} {at} s h join =
+    shown-one n (length v) at area join h (omega (arith, s .fits))
+    ∙ part-there area (at - length v) (length v) (omega (arith, s .within, s .fits))
+    ∙ sym (s .one (omega (arith, s .some)))
+
 -- an option that a call found, by its numbers
 module _ (area : List ℕ) (place : ℕ) {code parts len to : ℕ} (e : Found code parts len to ≡ sizes (look area place)) where
   abbrev value : List ℕ
@@ -159,10 +167,7 @@ module _ (area : List ℕ) (place : ℕ) {code parts len to : ℕ} (e : Found co
     pub passes-alone : parts ≡ 1 → Stepped area place join join (Found code parts len to)
     passes-alone one =
         let s = stands in
-        let there = part-there area (to - len) len (omega (arith, s .within, s .fits, long)) in
-        let l : len ≡ length value = sym long in
-        let shows = shown-one parts len to area join (omega arith) (omega (arith, s .fits, long)) ∙ there
-        ∙ (λ i. take (l i) (drop (to - l i) area)) ∙ sym (s .one one) in
+        let shows = ap (λ (n : ℕ). shown parts n to area join) (sym long) ∙ shown-stands s (omega arith) join in
         answered
         (stays (Found code parts len to)
         (ap (λ (x : List ℕ). given (option code x parts to)) shows

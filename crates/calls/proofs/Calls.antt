@@ -22,6 +22,7 @@ use Rattle.borrowed.specs.declared.answer.Step.{Step}
 use Rattle.borrowed.specs.declared.answer.Step.the-variants.{Stopped, Found, Refused, Needs}
 use Rattle.borrowed.specs.declared.answer.Stop.{Stop}
 use Rattle.borrowed.specs.declared.answer.Stop.the-variants.{Out, End, CutLength, CutValue, CutContinuation}
+use Rattle.calls.proofs.Made.{made-same}
 use Rattle.calls.specs.Calls.{WritesAll, closes, goes-on, ends, StepsTo, none, one, foundBy, ListsBack, CallsRoundTrip}
 
 -- what the last call of a run of writes says of the run
@@ -42,15 +43,8 @@ does-all (goes-on w more) = all-goes-on _ _ _ _ (sym (w .told)) (sym (w .left)) 
 does-all (ends w) = all-ends-at _ _ _ _ (sym (w .told))
 
 -- so a run that makes something ends with its place, and leaves its room
-abbrev madeIn : Made → Answer Made → Made
-madeIn other (given m) = m
-madeIn other (refused k) = other
-madeIn other (needs n) = other
-
 made-is : (r : Written) (room room′ : List ℕ) (to : ℕ) → made r room ≡ finished room′ to → (r ≡ written.To to) × (room ≡ room′)
-made-is (written.To at) room room′ to e =
-    let m : Made = record { room = room; place = at } in
-    (ap (λ (a : Answer Made). written.To (madeIn m a .place)) e, ap (λ (a : Answer Made). madeIn m a .room) e)
+made-is (written.To at) room room′ to e = let m = made-same e in (ap written.To (m .1), m .0)
 made-is (written.Refused k) room room′ to e = absurd (let z : _≡_ {A = ℕ} 0 1 = cc in omega arith)
 
 -- what a call found, by its code and its value
@@ -92,8 +86,12 @@ module _ (area rest : List ℕ) (short : length area ≤ mostBytes) where
 
       joins-on : mostValue ≤ length join₁
       joins-on =
-          omega (arith, ap length (s .kept ∙ ap (λ (a : Answer walk.Found). joinAfter a join) (first .finds)),
-          length-joined join (o .code) (o .value) (first .parts) (first .to) (omega (arith, v .0 .most, joins)), joins)
+          omega (
+            arith,
+            ap length (s .kept ∙ ap (λ (a : Answer walk.Found). joinAfter a join) (first .finds)),
+            length-joined join (o .code) (o .value) (first .parts) (first .to) (omega (arith, v .0 .most, joins)),
+            joins,
+          )
 
   steps-left : (os : List Opt) {sofar : List Opt} {place at : ℕ} {join join′ : List ℕ} → StepsTo area place join sofar at join′
       → Valid os → place ≤ length area → drop place area ≡ encodeAll os ++ rest → mostValue ≤ length join

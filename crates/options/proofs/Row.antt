@@ -1,6 +1,6 @@
 -- One row: which check decides, and what is so where none does.
 -- Assumes nothing.
-use mathlib.Core.Path.{_≡_, sym, ap, _∙_}
+use mathlib.Core.Path.{_≡_, refl, sym, ap, _∙_}
 use Prim.Native.Nat.{ℕ, _+_, _-_, _*_, _/_, _≤_, _<_}
 use mathlib.Core.Bool.{true, false}
 use mathlib.Core.List.{List, [], _∷_}
@@ -12,10 +12,11 @@ use lib.ListN.{length, take, drop, length-drop}
 use lib.Seq.{length-take-le}
 use Rattle.facts.specs.Over.{over}
 use Rattle.facts.proofs.Over.{over-nil}
-use Rattle.rfc.specs.Numbers.{given, refused, mostValue, mostPart, padCode, noCode, tooMuch}
-use Rattle.rfc.specs.Writing.{encode, answerTo}
+use Rattle.rfc.specs.Numbers.{given, refused, mostBytes, mostValue, mostPart, padCode, noCode, tooMuch}
+use Rattle.rfc.specs.Writing.{encode, answerTo, writeBytes}
 use Rattle.rfc.proofs.Numbers.{Clear, here, later, done, next, pad-code, end-code, a-code, much, not-much, not-too-much}
-use Rattle.rfc.proofs.Writing.{length-encode, encode-empty, encode-once, checks-refuse, clear-8, clear-given, given-clear, given-to, given-fits, given-left}
+use Rattle.rfc.proofs.Alike.{none, both, passes-left, as-bytes}
+use Rattle.rfc.proofs.Writing.{Alike, length-encode, encode-empty, encode-once, checks-refuse, clear-8, clear-given, given-clear, given-to, given-fits, given-left}
 use Rattle.encoder.specs.Written.{Wrote}
 use Rattle.encoder.specs.declared.Written.the-variants.{To}
 use Rattle.encoder.proofs.Answers.{writes}
@@ -68,6 +69,13 @@ module _ (code start len : ℕ) (values room : List ℕ) (place : ℕ) where
     pub length-row : length (encode mostPart code value) ≡ len + 2 * ((len + (mostPart - 1)) / mostPart)
     length-row =
         length-encode mostPart (lit< tt) code value ∙ ap (λ (n : ℕ). n + 2 * ((n + (mostPart - 1)) / mostPart)) length-value
+
+    -- in a room that is not too long, at a place of it, it is the write of a byte value
+    pub row-bytes : code ≤ 255 → length room ≤ mostBytes → place ≤ length room
+        → Alike (writeRow code start len values) (writeBytes code value room place) room place
+    unfolding writeRow
+    row-bytes b short within =
+        as-bytes _ code value room place short within refl (passes-left (stands-inside start len values a) (both (a-byte code b) (both refl none)))
 
     row-6 : notCode code ≡ true → answerTo (writeRow code start len values) room place ≡ refused 6
     unfolding writeRow

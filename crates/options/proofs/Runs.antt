@@ -11,7 +11,7 @@ use lib.Seq.{drop-cons}
 use Rattle.rfc.specs.Numbers.{Answer, given, refused, needs, mostBytes}
 use Rattle.rfc.specs.Writing.{Write, answerTo, roomAfter}
 use Rattle.rfc.proofs.Numbers.{here, later, refuses, done, next, clears, long, not-long, past, not-past}
-use Rattle.rfc.proofs.Writing.{given-to, given-fits, given-keeps}
+use Rattle.rfc.proofs.Writing.{given-to, given-fits, given-keeps, never-needs}
 use Rattle.encoder.specs.Written.{Wrote}
 use Rattle.encoder.specs.declared.Written.the-variants as written
 use Rattle.options.specs.Rows.{writeRow, Outcome, all, stuck, orStuck, rowsFrom, writeRows, answerOf, roomOf, WroteRows, InRoom, AllPass}
@@ -28,12 +28,34 @@ next-three l k h =
     rw (drop-cons l k 0 (omega arith), one, drop-cons l (k + 1) 0 (omega arith), two, drop-cons l (k + 2) 0 (omega arith), three)
 
 -- fewer than three numbers are no row
-no-row : (index : ℕ) (l values room : List ℕ) (at : ℕ) → length l < 3 → rowsFrom index l values room at ≡ all index room at
+pub no-row : (index : ℕ) (l values room : List ℕ) (at : ℕ) → length l < 3 → rowsFrom index l values room at ≡ all index room at
 unfolding rowsFrom
 no-row index [] values room at h = refl
 no-row index (a ∷ []) values room at h = refl
 no-row index (a ∷ b ∷ []) values room at h = refl
 no-row index (a ∷ b ∷ c ∷ l) values room at h = absurd (let f : ⊥ = omega arith in f)
+
+-- the first row, by what its write answers: it decides, or the rest goes on behind it
+module _ (index code start len : ℕ) (rows values room : List ℕ) (at : ℕ) where
+  abbrev from-row : List ℕ
+  from-row = code ∷ start ∷ len ∷ rows
+
+  first-row : {a : Answer ℕ} → answerTo (writeRow code start len values) room at ≡ a
+      → rowsFrom index from-row values room at
+      ≡ orStuck index a (rowsFrom (suc index) rows values (roomAfter (writeRow code start len values) room at))
+  unfolding rowsFrom
+  first-row e =
+      ap (λ (a : Answer ℕ). orStuck index a (rowsFrom (suc index) rows values (roomAfter (writeRow code start len values) room at))) e
+
+  pub row-goes-on : {to : ℕ} → answerTo (writeRow code start len values) room at ≡ given to
+      → rowsFrom index from-row values room at ≡ rowsFrom (suc index) rows values (roomAfter (writeRow code start len values) room at) to
+  unfolding orStuck
+  row-goes-on e = first-row e
+
+  pub row-decides : {number : ℕ} → answerTo (writeRow code start len values) room at ≡ refused number
+      → rowsFrom index from-row values room at ≡ stuck index number
+  unfolding orStuck
+  row-decides e = first-row e
 
 -- the write of the row whose numbers stand at k
 abbrev pub rowAt : List ℕ → ℕ → List ℕ → Write
@@ -68,22 +90,20 @@ module _ {rows values room₀ room : List ℕ} {place at k index : ℕ} (reached
     abbrev row : Write
     row = rowAt rows k values
 
-    -- the next row, by what its write answers
-    turn : {a : Answer ℕ} → answerTo row room at ≡ a
-        → orStuck index a (rowsFrom (suc index) (drop (k + 3) rows) values (roomAfter row room at)) ≡ rowsFrom 0 rows values room₀ place
-    unfolding rowsFrom
-    turn e =
-        ap (λ (a : Answer ℕ). orStuck index a (rowsFrom (suc index) (drop (k + 3) rows) values (roomAfter row room at))) (sym e)
-        ∙ ap (λ (l : List ℕ). rowsFrom index l values room at) (sym (next-three rows k h))
-        ∙ reached .same
+    -- the rows from there on
+    these : rowsFrom index (getD rows k 0 ∷ getD rows (k + 1) 0 ∷ getD rows (k + 2) 0 ∷ drop (k + 3) rows) values room at
+        ≡ rowsFrom 0 rows values room₀ place
+    these = ap (λ (l : List ℕ). rowsFrom index l values room at) (sym (next-three rows k h)) ∙ reached .same
 
     -- a row that is written
     pub reached-more : {to : ℕ} → answerTo row room at ≡ given to
         → Reached rows values room₀ place (roomAfter row room at) to (k + 3) (index + 1)
-    unfolding orStuck
     reached-more {to} e =
         record {
-          same = ap (λ (n : ℕ). rowsFrom n (drop (k + 3) rows) values (roomAfter row room at) to) (add-one index) ∙ turn e;
+          same =
+              ap (λ (n : ℕ). rowsFrom n (drop (k + 3) rows) values (roomAfter row room at) to) (add-one index)
+              ∙ sym (row-goes-on index _ _ _ (drop (k + 3) rows) values room at e)
+              ∙ these;
           threes = omega arith;
           inside = h;
           keeps = given-keeps row room at to e ∙ reached .keeps;
@@ -92,22 +112,17 @@ module _ {rows values room₀ room : List ℕ} {place at k index : ℕ} (reached
 
     -- a row that is refused
     pub reached-stuck : {number : ℕ} → answerTo row room at ≡ refused number → stuck index number ≡ rowsFrom 0 rows values room₀ place
-    unfolding orStuck
-    reached-stuck e = turn e
+    reached-stuck e = sym (row-decides index _ _ _ (drop (k + 3) rows) values room at e) ∙ these
 
     -- where no row is refused, this one is not
     pub reached-passes : {count : ℕ} {room′ : List ℕ} {to : ℕ} → rowsFrom 0 rows values room₀ place ≡ all count room′ to
         → (then : ℕ) × (answerTo row room at ≡ given then)
-    unfolding orStuck
     reached-passes {count} {room′} {to} passes = go (answerTo row room at) refl
       where
-        none : {number : ℕ} → stuck index number ≡ all count room′ to → ⊥
-        none e = let z : _≡_ {A = ℕ} 0 1 = cc in omega arith
-
         go : (a : Answer ℕ) → answerTo row room at ≡ a → (then : ℕ) × (answerTo row room at ≡ given then)
         go (given then) e = (then, e)
-        go (refused number) e = absurd (none (turn e ∙ passes))
-        go (needs n) e = absurd (none (turn e ∙ passes))
+        go (refused number) e = absurd (let f = reached-stuck e ∙ passes in let z : _≡_ {A = ℕ} 0 1 = cc in omega arith)
+        go (needs n) e = absurd (never-needs row room at n e)
 
 -- the same by what a write answers and leaves
 pub uncounted-more : {rows values room₀ room room′ : List ℕ} {place at k to : ℕ} → Uncounted rows values room₀ place room at k

@@ -12,7 +12,7 @@ use Rattle.facts.specs.Over.{over}
 use Rattle.facts.specs.Pieces.{pieces}
 use Rattle.facts.proofs.Over.{over-over, length-over}
 use Rattle.rfc.specs.Numbers.{Answer, given, refused, andThen, mostBytes, mostValue, mostPart, padCode, endCode}
-use Rattle.rfc.specs.Walk.{Found, stop, option, end, run, further, step}
+use Rattle.rfc.specs.Walk.{Stop, Found, stop, option, end, run, further, step}
 use Rattle.rfc.specs.Writing.{encode, Write, answerTo, roomAfter, writeBytes, close}
 use Rattle.rfc.specs.Lists.{Opt, Good, Differs, Valid, Bytes, encodeAll, Made, does, finished, writeAll, Listing, onward, listIn, listing}
 use Rattle.rfc.proofs.Walk.{further-other, walk-end, stop-answered, answered, step-walks}
@@ -99,9 +99,34 @@ next-other code (o ∷ os) rest h d v =
     ap (λ (l : List ℕ). further code (l ++ encodeAll os ++ rest)) (encode-more mostPart some-part (o .code) (o .value) (v .0 .some))
     ∙ further-other code (o .code) _ d
 
+-- A listing, call by call
+module _ (area : List ℕ) (room place : ℕ) where
+  pub list-none : listIn zero area room place ≡ record { options = []; ending = step area place room }
+  unfolding listIn
+  list-none = refl
+
+  module _ (k : ℕ) where
+    pub list-stop : {s : Stop} {at : ℕ} → step area place room ≡ given (stop s at)
+        → listIn (suc k) area room place ≡ record { options = []; ending = given (stop s at) }
+    unfolding listIn onward
+    list-stop e = ap (λ (a : Answer Found). onward a (listIn k area room)) e
+
+    pub list-option : {code : ℕ} {v : List ℕ} {n at : ℕ} → step area place room ≡ given (option code v n at)
+        → listIn (suc k) area room place
+        ≡ record {
+          options = record { code = code; value = v } ∷ listIn k area room at .options;
+          ending = listIn k area room at .ending;
+        }
+    unfolding listIn onward
+    list-option e = ap (λ (a : Answer Found). onward a (listIn k area room)) e
+
+pub list-whole : (area : List ℕ) (room : ℕ) → listing area room ≡ listIn (length area) area room 0
+unfolding listing
+list-whole area room = refl
+
 module _ (area rest : List ℕ) (room : ℕ) (short : length area ≤ mostBytes) (joins : mostValue ≤ room) where
   -- the call at the list's End
-  pub at-end : (place : ℕ) → place ≤ length area → drop place area ≡ encodeAll [] ++ rest 
+  pub at-end : (place : ℕ) → place ≤ length area → drop place area ≡ encodeAll [] ++ rest
       → step area place room ≡ given (stop end (place + length (encodeAll [])))
   unfolding encodeAll
   at-end place inside e =
@@ -145,14 +170,13 @@ module _ (area rest : List ℕ) (room : ℕ) (short : length area ≤ mostBytes)
 
   list-in : (os : List Opt) (place k : ℕ) → Valid os → length os ≤ k → place ≤ length area → drop place area ≡ encodeAll os ++ rest
       → listIn k area room place ≡ record { options = os; ending = given (stop end (place + length (encodeAll os))) }
-  unfolding encodeAll listIn onward
-  list-in [] place zero v h inside e = λ i. record { options = []; ending = at-end place inside e i }
-  list-in [] place (suc k) v h inside e = ap (λ (a : Answer Found). onward a (listIn k area room)) (at-end place inside e)
+  list-in [] place zero v h inside e = list-none area room place ∙ (λ i. record { options = []; ending = at-end place inside e i })
+  list-in [] place (suc k) v h inside e = list-stop area room place k (at-end place inside e)
   list-in (o ∷ os) place zero v h inside e = absurd (not-suc-le-zero h)
   list-in (o ∷ os) place (suc k) v h inside e =
       let first = at-option o os place v inside e in
       let r = list-in os (first .to) k (v .2) (omega arith) (first .within) (first .more) in
-      ap (λ (x : Answer Found). onward x (listIn k area room)) (first .finds)
+      list-option area room place k (first .finds)
       ∙ (λ i. record { options = o ∷ r i .options; ending = r i .ending })
       ∙ (λ i. record { options = o ∷ os; ending = given (stop end (first .ends i)) })
 

@@ -9,11 +9,11 @@ use mathlib.Core.List.{List, [], _∷_, _++_}
 use lib.ListN.{length, take, drop, getD, length-drop, length-append, drop-of-length-le}
 use lib.Seq.{drop-cons, drop-drop, take-append-seam, drop-append-seam, length-take-le, take-length}
 use native.Mathlib.Decide.{decLe, decLt, ℕ-discrete}
-use Rattle.rfc.specs.Numbers.{given, padCode, endCode}
-use Rattle.rfc.specs.Walk.{Stop, out, end, cutLength, cutValue, stop, option, Run, cut, run, extend, further, joined, walk, look}
+use Rattle.rfc.specs.Numbers.{given, padCode, endCode, mostBytes}
+use Rattle.rfc.specs.Walk.{Stop, out, end, cutLength, cutValue, Found, stop, option, Run, cut, run, extend, further, joined, walk, roomFor, look, step}
 use Rattle.rfc.specs.Lists.{Bytes}
 use Rattle.rfc.proofs.Finding.{bytes-drop, lies, Halts, at-end, Finds, finds}
-use Rattle.rfc.proofs.Walk.{look-walked, further-none, further-other, further-no-length, further-no-value, further-more, walk-out, walk-pad, walk-end, walk-code, behind-none, behind-short, behind-whole}
+use Rattle.rfc.proofs.Walk.{look-walked, step-walks, stop-answered, answered, further-none, further-other, further-no-length, further-no-value, further-more, walk-out, walk-pad, walk-end, walk-code, behind-none, behind-short, behind-whole}
 
 module _ (area : List ℕ) (i : ℕ) where
   drop-one : i < length area → drop i area ≡ getD area i 0 ∷ drop (i + 1) area
@@ -228,3 +228,13 @@ module _ (area : List ℕ) (code : ℕ) (v : List ℕ) (n at : ℕ) where
   -- of bytes, a part holds at most 255
   pub stands-small : Stands area code v n at → Bytes area → length v ≤ 255 * n
   stands-small s bytes = lies code _ n v (s .parts) .1 (bytes-drop (at - (2 * n + length v)) area bytes)
+
+-- with room for as many bytes as the area has, everything is joined
+pub all-joins : (area : List ℕ) (place room : ℕ) → length area ≤ mostBytes → place ≤ length area → length area ≤ room
+    → step area place room ≡ given (walk place (drop place area))
+all-joins area place room short within h = step-walks area place room short within ∙ go (walk place (drop place area)) refl
+  where
+    go : (f : Found) → walk place (drop place area) ≡ f → roomFor room f ≡ given f
+    go (stop s at) e = stop-answered room s at
+    go (option code v n at) e =
+        let s = walk-stands area code v n at place e in answered room code v n at (omega (arith, s .fits, s .within))

@@ -12,10 +12,10 @@ use Rattle.facts.specs.Pieces.{pieces}
 use Rattle.facts.proofs.Over.{length-over}
 use Rattle.facts.proofs.Least.{take-least, drop-least}
 use Rattle.facts.proofs.Pieces.{pieces-none, pieces-more, flatten-pieces, count-pieces}
-use Rattle.rfc.specs.Numbers.{Answer, given, refused, mostBytes, mostValue, mostPart, padCode, endCode, tooLong, pastEnd, noRoom, Check, check, checked}
+use Rattle.rfc.specs.Numbers.{Answer, given, refused, needs, mostBytes, mostValue, mostPart, padCode, endCode, tooLong, pastEnd, noRoom, Check, check, checked}
 use Rattle.rfc.specs.Writing.{partsOf, encode, Write, writeChecks, answerTo, roomLeft, roomAfter, writeSlice, intoRoom, writeBytes, close}
 use Rattle.rfc.proofs.Alike.{clear-slice}
-use Rattle.rfc.proofs.Numbers.{Refuses, here, later, refuses, Clear, done, next, clears, passes, refuses-front, refuses-behind, clear-both, clear-front, clear-last, given-no, long, not-long, past, not-past, pad-code, end-code, a-code, much, not-much, full, not-full, room-left}
+use Rattle.rfc.proofs.Numbers.{Refuses, here, later, refuses, Clear, done, next, clears, passes, refuses-front, refuses-behind, clear-both, clear-front, clear-last, given-no, needs-no, long, not-long, past, not-past, pad-code, end-code, a-code, much, not-much, full, not-full, room-left}
 
 -- two bytes for each part
 pub length-parts : (code : ℕ) (ps : List (List ℕ)) → length (partsOf code ps) ≡ 2 * length ps + length (flatten ps)
@@ -121,6 +121,14 @@ module _ (w : Write) (room : List ℕ) (place : ℕ) where
 
   pub given-keeps : (to : ℕ) → answerTo w room place ≡ given to → length (roomAfter w room place) ≡ length room
   given-keeps to e = ap length (given-left to e) ∙ length-over room place (w .bytes) (given-fits to e)
+
+  -- a write has nothing to join
+  pub never-needs : (n : ℕ) → answerTo w room place ≡ needs n → ⊥
+  unfolding answerTo
+  never-needs n e =
+      let r = passes (writeChecks w room place) (given (place + length (w .bytes))) (needs n) (needs-no n) e .1 in
+      let z : _≡_ {A = ℕ} 0 1 = cc in
+      omega arith
 
   -- of a room only its length decides
   pub same-answer : (other : List ℕ) → length room ≡ length other → answerTo w room place ≡ answerTo w other place

@@ -1,7 +1,7 @@
 -- The laws of `specs/Listing.antt`, of a listing row by row, and of one call.
 -- Assumes nothing.
 use mathlib.Core.Path.{_≡_, refl, sym, ap, _∙_}
-use Prim.Native.Nat.{ℕ, _+_, _-_, _/_, _≤_, _<_}
+use Prim.Native.Nat.{ℕ, suc, _+_, _-_, _/_, _≤_, _<_}
 use native.Mathlib.Omega.{arith}
 use native.Mathlib.Nat.{div-eq-of-lt, div-eq-sub-div}
 use native.Mathlib.Numerals.{add-one}
@@ -12,9 +12,9 @@ use denote.Enum.Declared.{tagOf}
 use Rattle.facts.specs.Over.{over}
 use Rattle.facts.proofs.Over.{over-nil, over-over}
 use Rattle.rfc.specs.Numbers.{Answer, given, refused, mostBytes}
-use Rattle.rfc.specs.Walk.{Found, stop, option, walk, look, stepChecks}
-use Rattle.rfc.proofs.Numbers.{here, later, refuses, done, next, clears, long, not-long, past, not-past}
-use Rattle.rfc.proofs.Walk.{look-walks, look-walked}
+use Rattle.rfc.specs.Walk as walk
+use Rattle.rfc.specs.Walk.{Found, stop, option, walk, look}
+use Rattle.rfc.proofs.Walk.{look-walks, look-walked, checks-2, checks-4, checks-pass}
 use Rattle.rfc.proofs.Places.{Stands, look-stands}
 use Rattle.borrowed.specs.Walked.{stopOf, sizes}
 use Rattle.borrowed.specs.declared.answer.Stop.{Stop}
@@ -28,6 +28,23 @@ use Rattle.sindovaleph_rows.specs.Listing.{listedOf, rowsAfter, Lists, b
 use Rattle.sindovaleph_rows.specs.declared.listing.Filled.{Filled}
 use Rattle.sindovaleph_rows.specs.declared.listing.Listed.{Listed}
 use Rattle.sindovaleph_rows.proofs.Rows.{four, length-row, inside, row-alike}
+
+-- with room for a row, what is found ends the listing, or stands in front of the rest
+module _ (c : Columns) (k : ℕ) (area : List ℕ) (at : ℕ) where
+  pub list-stop : {s : walk.Stop} {to : ℕ} → walk at (drop at area) ≡ stop s to
+      → listIn (suc k) c area at ≡ record { rows = []; last = atStop s; place = to }
+  unfolding listIn inFront
+  list-stop e = ap (λ (f : Found). inFront c f (listIn k c area)) e
+
+  pub list-option : {code : ℕ} {v : List ℕ} {n to : ℕ} → walk at (drop at area) ≡ option code v n to
+      → listIn (suc k) c area at
+      ≡ record {
+        rows = rowOf c code v n to ++ listIn k c area to .rows;
+        last = listIn k c area to .last;
+        place = listIn k c area to .place;
+      }
+  unfolding listIn inFront
+  list-option e = ap (λ (f : Found). inFront c f (listIn k c area)) e
 
 -- with so much room a listing is full, or what is found stands in front of the rest
 module _ (c : Columns) (n room : ℕ) (area : List ℕ) (at : ℕ) where
@@ -157,6 +174,12 @@ never area at h g (step.Found code parts len to) e t = miss others 1 tt t
 never area at h g (step.Refused k) e t = let z : _≡_ {A = ℕ} 0 1 = cc (refused-is k (look area at) e, look-walks area at h g) in omega arith
 never area at h g (step.Needs len) e t = let z : _≡_ {A = ℕ} 0 1 = cc (needs-is len (look area at) e, look-walks area at h g) in omega arith
 
+-- a call that is not refused
+pub list-given : (c : Columns) (area : List ℕ) (place room : ℕ) → length area ≤ mostBytes → place ≤ length area
+    → list c area place room ≡ given (listIn (room / width c) c area place)
+unfolding list
+list-given c area place room h g = checks-pass area place _ h g
+
 -- one call
 module _ (c : Columns) (area : List ℕ) (place : ℕ) (rows : List ℕ) (r : Listed) where
   refusing : (number : ℕ) → list c area place (length rows) ≡ refused number
@@ -165,19 +188,15 @@ module _ (c : Columns) (area : List ℕ) (place : ℕ) (rows : List ℕ) (r : Li
       record { told = e ∙ sym (ap (listedOf c place) is); kept = sym (ap (λ (a : Answer Listing). rowsAfter a rows) is) }
 
   pub lists-2 : mostBytes < length area → r ≡ record { refused = 2; stop = 0; rows = 0; place = place } → Lists c area place rows rows r
-  unfolding list stepChecks
-  lists-2 h e = refusing 2 (refuses _ (here (long area h))) e
+  unfolding list
+  lists-2 h e = refusing 2 (checks-2 area place _ h) e
 
   module _ (h : length area ≤ mostBytes) where
     pub lists-4 : length area < place → r ≡ record { refused = 4; stop = 0; rows = 0; place = place } → Lists c area place rows rows r
-    unfolding list stepChecks
-    lists-4 g e = refusing 4 (refuses _ (later (not-long area h) (here (past place area g)))) e
+    unfolding list
+    lists-4 g e = refusing 4 (checks-4 area place _ h g) e
 
     module _ (g : place ≤ length area) where
-      checked : list c area place (length rows) ≡ given (listIn (length rows / width c) c area place)
-      unfolding list stepChecks
-      checked = clears _ (next (not-long area h) (next (not-past place area g) done))
-
       pub lists-given : (rows′ : List ℕ) (f : Filled)
           → (rows′, f) ≡ fillsFrom rows 0 (listIn (length rows / width c) c area place)
           → r ≡ listedFrom (width c) f → Lists c area place rows rows′ r
@@ -190,6 +209,6 @@ module _ (c : Columns) (area : List ℕ) (place : ℕ) (rows : List ℕ) (r : Li
                 answer
                 ∙ ap (λ (x : Left). listedFrom (width c) (x .1)) e
                 ∙ (λ i. record { refused = 0; stop = lastNumber (l .last); rows = z i / width c; place = l .place })
-                ∙ sym (ap (listedOf c place) checked);
-            kept = ap (λ (x : Left). x .0) e ∙ sym (ap (λ (a : Answer Listing). rowsAfter a rows) checked);
+                ∙ sym (ap (listedOf c place) (list-given c area place (length rows) h g));
+            kept = ap (λ (x : Left). x .0) e ∙ sym (ap (λ (a : Answer Listing). rowsAfter a rows) (list-given c area place (length rows) h g));
           }
