@@ -57,7 +57,7 @@ pub fn write_u16s(room: &mut [u8], place: usize, code: u8, u16s: &[u16]) -> Writ
     if u16s.len() > MOST_VALUE / 2 {
         return Written::Refused(7);
     }
-    let size = parts::size_in_parts((2 * u16s.len()) as u16, (2 * U16S_A_PART) as u8);
+    let size = parts::size_in_parts((2 * u16s.len()) as u16, (2 * U16S_A_PART) as u16);
     if size > room.len() - place {
         return Written::Refused(8);
     }
@@ -89,7 +89,7 @@ fn write_u32s_as(
     if numbers.len() > MOST_VALUE / 4 {
         return Written::Refused(7);
     }
-    let size = parts::size_in_parts((4 * numbers.len()) as u16, (4 * most) as u8);
+    let size = parts::size_in_parts((4 * numbers.len()) as u16, (4 * most) as u16);
     if size > room.len() - place {
         return Written::Refused(8);
     }

@@ -63,7 +63,7 @@ fn write_parts(room: &mut [u8], place: usize, code: u8, value: &[u8]) -> Written
     ensures { λ r. ⌜ Wrote (writeSlice (encode mostPart code (now (value .entry))) (now (room .entry)) place)
         (now (room .entry)) (now (room .exit)) place r ⌝ }
 {
-    let size = parts::size_in_parts(value.len() as u16, MOST_PART as u8);
+    let size = parts::size_in_parts(value.len() as u16, MOST_PART as u16);
     if size > room.len() - place {
         return Written::Refused(8);
     }

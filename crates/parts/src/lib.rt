@@ -4,7 +4,7 @@ ghost use Prim.Native.Nat.{min};
 ghost use Rattle.rfc.specs.Writing.{sizeInParts};
 
 // How many bytes so many bytes take in parts of `most`. No division is made by 0.
-pub fn size_in_parts(len: u16, most: u8) -> usize
+pub fn size_in_parts(len: u16, most: u16) -> usize
     ensures { λ r. ⌜ r ≡ sizeInParts most len ⌝ }
 {
     let n = len as usize;

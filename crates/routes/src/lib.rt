@@ -159,7 +159,7 @@ fn turn_over(mut pass: Pass, n: usize) -> Pass
         pass.refusal = 8;
         return pass;
     }
-    if parts::size_in_parts(len as u16, MOST_PART as u8) > n - pass.at {
+    if parts::size_in_parts(len as u16, MOST_PART as u16) > n - pass.at {
         pass.refusal = 8;
         return pass;
     }
