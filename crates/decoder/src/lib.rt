@@ -1,7 +1,7 @@
-// Numbers out of bytes in network byte order, one function a width, as the crate's `Decoder` reads them.
+// Numbers out of bytes in network byte order, one function a width, as the crate's `Decoder` reads them; and those at a place of a slice.
 ghost use mathlib.Core.Path.{_≡_};
 ghost use mathlib.Core.List.{[], _∷_};
-ghost use Rattle.facts.specs.BigEndian.{number, signed};
+ghost use Rattle.facts.specs.BigEndian.{number, numberAt, signed};
 
 // Two bytes as a number, the first the highest.
 pub fn be_u16(a: u8, b: u8) -> u16
@@ -26,4 +26,31 @@ pub fn be_i32(a: u8, b: u8, c: u8, d: u8) -> i32
         return bits as i32;
     }
     !((0xffff_ffff - bits) as i32)
+}
+
+// The number that two bytes from `at` on are, 0 where they are not all there. Where the compiler knows how many bytes
+// there are, it makes no test.
+pub fn u16_at(bytes: &[u8], at: usize) -> u16
+    ensures { λ r. ⌜ r ≡ numberAt 2 (now (bytes .entry)) at ⌝ }
+{
+    if bytes.len() < 2 {
+        return 0;
+    }
+    if at > bytes.len() - 2 {
+        return 0;
+    }
+    be_u16(bytes[at], bytes[at + 1])
+}
+
+// The number that four bytes from `at` on are, 0 where they are not all there.
+pub fn u32_at(bytes: &[u8], at: usize) -> u32
+    ensures { λ r. ⌜ r ≡ numberAt 4 (now (bytes .entry)) at ⌝ }
+{
+    if bytes.len() < 4 {
+        return 0;
+    }
+    if at > bytes.len() - 4 {
+        return 0;
+    }
+    be_u32(bytes[at], bytes[at + 1], bytes[at + 2], bytes[at + 3])
 }

@@ -1,15 +1,16 @@
 -- Numbers of any width: what is written reads back, and what is read writes back. Proved once, for every width.
 -- Assumes nothing.
-use mathlib.Core.Path.{_≡_, refl, _∙_, ap}
-use mathlib.Core.List.{List, [], _∷_}
+use mathlib.Core.Path.{_≡_, refl, sym, _∙_, ap}
+use mathlib.Core.List.{List, [], _∷_, _++_}
 use Prim.Native.Nat.{ℕ, zero, suc, _+_, _*_, _/_, _%_, _^_, _≤_, _<_}
 use native.Mathlib.Nat.{pow-succ', add-mul, mul-assoc, mod-eq-of-lt}
 use native.Mathlib.Omega.{arith}
 use lib.Arith.{mod-mul, digits-lt, digits-div, digits-mod}
 use lib.Dec.{lit<}
-use lib.ListN.{length, getD, take}
-use lib.Seq.{take-take}
-use Rattle.facts.specs.BigEndian.{number, numberFrom, digits}
+use lib.ListN.{length, getD, take, drop, length-drop, take-append-drop}
+use lib.Seq.{take-take, length-take-le, take-append-le, drop-append-le}
+use borrow.Author.Tests.{le-leb, lt-leb}
+use Rattle.facts.specs.BigEndian.{number, numberFrom, numberAt, digits}
 
 -- every element is a byte, as what owning a `&[u8]` tells
 abbrev pub Bytes : List ℕ → Type 0
@@ -37,6 +38,27 @@ pub number-below : (xs : List ℕ) → Bytes xs → number xs < 256 ^ length xs
 number-below [] b = lit< tt
 number-below (x ∷ xs) b =
     rw (pow-succ' 256 (length xs), number-from (0 + x) xs) (digits-lt (omega (arith, b 0)) (number-below xs (λ i. b (suc i))))
+
+-- a number at a place, where its bytes are all there, and where they are not
+module _ (width : ℕ) (bytes : List ℕ) (at : ℕ) where
+  pub number-there : at + width ≤ length bytes → numberAt width bytes at ≡ number (take width (drop at bytes))
+  unfolding numberAt
+  number-there h = rw (le-leb (at + width) (length bytes) h)
+
+  pub number-past : length bytes < at + width → numberAt width bytes at ≡ 0
+  unfolding numberAt
+  number-past h = rw (lt-leb (at + width) (length bytes) h)
+
+-- it stands in the bytes before their end, whatever comes behind
+pub number-front : (width : ℕ) (bytes : List ℕ) (at n : ℕ) → at + width ≤ n → n ≤ length bytes
+    → numberAt width (take n bytes) at ≡ number (take width (drop at bytes))
+number-front width bytes at n h g =
+    let p : List ℕ = take n bytes in
+    let long : length p ≡ n = length-take-le n bytes g in
+    let same : take width (drop at (p ++ drop n bytes)) ≡ take width (drop at p) =
+    ap (take width) (drop-append-le at p (drop n bytes) (omega arith))
+    ∙ take-append-le width (drop at p) (drop n bytes) (omega (arith, length-drop at p)) in
+    number-there width p at (omega arith) ∙ ap number (rw (take-append-drop n bytes) at (sym same))
 
 -- what is written reads back, at every width
 pub reads-back : (w h n : ℕ) → numberFrom h (digits w n) ≡ h * 256 ^ w + n % 256 ^ w

@@ -8,9 +8,10 @@ use native.Mathlib.Numerals.{add-one}
 use native.Mathlib.Omega.{arith}
 use lib.ListN.{length, getD, take, drop, set, length-append}
 use lib.Seq.{take-all, drop-cons}
-use Rattle.facts.specs.BigEndian.{number}
+use Rattle.facts.specs.BigEndian.{number, numberAt}
 use Rattle.facts.specs.Over.{over}
 use Rattle.facts.proofs.Over.{over-nil, over-over, set-over, length-over}
+use Rattle.facts.proofs.BigEndian.{number-there}
 
 -- the w bytes at at + i, at + i + 1 and so on
 abbrev pub cellsFrom : List ℕ → ℕ → ℕ → ℕ → List ℕ
@@ -38,8 +39,12 @@ part-cells s at (suc w) h =
     ∙ ap (λ (l : List ℕ). getD s at 0 ∷ l) (part-from s at 1 w (omega arith))
 
 -- and is the number that they are
-pub cells-number : (s : List ℕ) (at w : ℕ) → at + w ≤ length s → number (cells s at w) ≡ number (take w (drop at s))
+cells-number : (s : List ℕ) (at w : ℕ) → at + w ≤ length s → number (cells s at w) ≡ number (take w (drop at s))
 cells-number s at w there = ap number (sym (part-cells s at w there))
+
+-- the one at that place
+pub cells-at : (s : List ℕ) (at w : ℕ) → at + w ≤ length s → number (cells s at w) ≡ numberAt w s at
+cells-at s at w there = cells-number s at w there ∙ sym (number-there w s at there)
 
 -- one byte is its number
 pub byte-at : (s : List ℕ) (at : ℕ) → at + 1 ≤ length s → getD s at 0 ≡ number (take 1 (drop at s))

@@ -2,8 +2,9 @@
 -- Assumes nothing.
 use Prim.Native.Nat.{ℕ, zero, suc, _+_, _-_, _*_, _/_, _%_, _^_}
 use mathlib.Core.List.{List, [], _∷_}
-use mathlib.Core.Bool.{Bool, true, false}
-use lib.Dec.{ltb}
+use mathlib.Core.Bool.{Bool, true, false, cond}
+use lib.Dec.{leb, ltb}
+use lib.ListN.{length, take, drop}
 use lib.IntN.{ℤ, pos, negsuc}
 
 -- the number that some bytes are, behind what stands before them
@@ -14,6 +15,10 @@ numberFrom high (x ∷ xs) = numberFrom (high * 256 + x) xs
 -- the number that some bytes are
 abbrev pub number : List ℕ → ℕ
 number xs = numberFrom 0 xs
+
+-- the number that so many bytes from a place on are, 0 where they are not all there
+unfoldable pub numberAt : ℕ → List ℕ → ℕ → ℕ
+numberAt width bytes at = cond (leb (at + width) (length bytes)) (number (take width (drop at bytes))) 0
 
 -- a number as so many bytes
 abbrev pub digits : ℕ → ℕ → List ℕ

@@ -6,16 +6,17 @@ use native.Mathlib.Omega.{arith}
 use mathlib.Core.Bool.{Bool, true, false, not}
 use mathlib.Core.List.{List}
 use lib.Dec.{eqb}
-use lib.ListN.{length, getD}
+use lib.ListN.{length, getD, take}
 use borrow.Author.Tests.{ne-eqb}
-use Rattle.facts.specs.BigEndian.{number}
+use Rattle.facts.specs.BigEndian.{number, numberAt}
+use Rattle.facts.proofs.BigEndian.{number-front}
 use Rattle.facts.proofs.Cells.{byte-at}
-use Rattle.rfc.specs.Numbers.{given, refused, firstRefusal}
+use Rattle.rfc.specs.Numbers.{given, refused, leastMessage, firstRefusal}
 use Rattle.rfc.specs.Header as rfc
 use Rattle.rfc.specs.Header.{Part, part, bytesOf, messageChecks, field, untilZero, textField}
 use Rattle.rfc.proofs.Numbers.{Refuses, is-first, Clear, message-none}
 use Rattle.rfc.proofs.Header as laws
-use Rattle.header.specs.Header.{magicIn, allOf, noneOf, Whole}
+use Rattle.header.specs.Header.{magicIn, allOf, noneOf, Whole, Inside}
 
 -- the number that refuses a message is that of the first check whose test holds; where it is 0, the message has the whole header
 module _ (message : List ℕ) {k : ℕ} (e : k ≡ firstRefusal (messageChecks message)) where
@@ -45,6 +46,11 @@ module _ (message : List ℕ) (w : Whole message) where
 
   pub texts : (f : Part) → textField f message ≡ given (part (f .start) (untilZero (bytesOf f message)))
   texts f = laws.text-given message f clear
+
+  -- the number of a field is the one at its place
+  pub number-is : (start size : ℕ) → Inside start size
+      → numberAt size (take leastMessage message) start ≡ number (bytesOf (part start size) message)
+  number-is start size h = number-front size message start leastMessage h (w .least)
 
   -- chaddr's bytes are not all there, or they are
   pub chaddr-past : length message < 28 + getD message 2 0 → rfc.chaddr message ≡ refused 3

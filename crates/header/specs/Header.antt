@@ -110,10 +110,6 @@ pub record Whole (message : List ℕ) : Type 0 where
   pub least : leastMessage ≤ length message
   pub most : length message ≤ mostBytes
 
--- bytes that a message has
-abbrev pub There : ℕ → ℕ → List ℕ → Type 0
-There start size message = start + size ≤ length message
-
 -- bytes that every message has
 abbrev pub Inside : ℕ → ℕ → Type 0
 Inside start size = start + size ≤ leastMessage

@@ -2,10 +2,9 @@
 // number of its refusal.
 ghost use mathlib.Core.Path.{_≡_};
 ghost use mathlib.Core.Bool.{not};
-ghost use Rattle.facts.specs.BigEndian.{number};
 ghost use Rattle.rfc.specs.Numbers.{firstRefusal};
 ghost use Rattle.rfc.specs.Header as rfc;
-ghost use Rattle.header.specs.Header.{says, saysPart, saysArea, allOf, noneOf, cutIn, Whole, There, Sized, Inside};
+ghost use Rattle.header.specs.Header.{says, saysPart, saysArea, allOf, noneOf, cutIn, Whole, Sized, Inside};
 use limits::LEAST_MESSAGE;
 use limits::MOST_BYTES;
 
@@ -258,7 +257,7 @@ fn refusal_of(message: &[u8]) -> u8
     0
 }
 
-// The `size` bytes from `start` on as a number.
+// The `size` bytes from `start` on as a number, out of those that every message has: the compiler knows how many these are.
 fn field(message: &[u8], start: usize, size: usize) -> Number
     requires { ⌜ Sized start size ⌝ }
     ensures { λ r. ⌜ says r ≡ rfc.field (rfc.part start size) (now (message .entry)) ⌝ }
@@ -270,31 +269,11 @@ fn field(message: &[u8], start: usize, size: usize) -> Number
     if size == 1 {
         return Number::Is(message[start] as usize);
     }
+    let head = &message[0..LEAST_MESSAGE];
     if size == 2 {
-        return Number::Is(u16_at(message, start) as usize);
+        return Number::Is(decoder::u16_at(head, start) as usize);
     }
-    Number::Is(u32_at(message, start) as usize)
-}
-
-// The two bytes from `start` on as a number.
-fn u16_at(message: &[u8], start: usize) -> u16
-    requires { ⌜ There start 2 (now message) ⌝ }
-    ensures { λ r. ⌜ r ≡ number (rfc.bytesOf (rfc.part start 2) (now (message .entry))) ⌝ }
-{
-    decoder::be_u16(message[start], message[start + 1])
-}
-
-// The four bytes from `start` on as a number.
-fn u32_at(message: &[u8], start: usize) -> u32
-    requires { ⌜ There start 4 (now message) ⌝ }
-    ensures { λ r. ⌜ r ≡ number (rfc.bytesOf (rfc.part start 4) (now (message .entry))) ⌝ }
-{
-    decoder::be_u32(
-        message[start],
-        message[start + 1],
-        message[start + 2],
-        message[start + 3],
-    )
+    Number::Is(decoder::u32_at(head, start) as usize)
 }
 
 // Where the text of the field of `size` bytes from `start` on stands.
@@ -337,7 +316,8 @@ fn wrong_magic(message: &[u8]) -> bool
     requires { ⌜ Whole (now message) ⌝ }
     ensures { λ r. ⌜ r ≡ not (rfc.magicRight (now (message .entry))) ⌝ }
 {
-    u32_at(message, Header::MAGIC) != decoder::be_u32(99, 130, 83, 99)
+    let head = &message[0..LEAST_MESSAGE];
+    decoder::u32_at(head, Header::MAGIC) != decoder::be_u32(99, 130, 83, 99)
 }
 
 // The number that refuses the showing of chaddr alone.
@@ -357,16 +337,17 @@ fn read_all(message: &[u8]) -> Fields
     requires { ⌜ Whole (now message) ⌝ }
     ensures { λ r. ⌜ r ≡ allOf (now (message .entry)) ⌝ }
 {
+    let head = &message[0..LEAST_MESSAGE];
     Fields {
         sname: text_len(message, Header::SNAME, Header::SNAME_SIZE),
         file: text_len(message, Header::FILE, Header::FILE_SIZE),
-        xid: u32_at(message, Header::XID),
-        ciaddr: u32_at(message, Header::CIADDR),
-        yiaddr: u32_at(message, Header::YIADDR),
-        siaddr: u32_at(message, Header::SIADDR),
-        giaddr: u32_at(message, Header::GIADDR),
-        secs: u16_at(message, Header::SECS),
-        flags: u16_at(message, Header::FLAGS),
+        xid: decoder::u32_at(head, Header::XID),
+        ciaddr: decoder::u32_at(head, Header::CIADDR),
+        yiaddr: decoder::u32_at(head, Header::YIADDR),
+        siaddr: decoder::u32_at(head, Header::SIADDR),
+        giaddr: decoder::u32_at(head, Header::GIADDR),
+        secs: decoder::u16_at(head, Header::SECS),
+        flags: decoder::u16_at(head, Header::FLAGS),
         refused: 0,
         op: message[Header::OP],
         htype: message[Header::HTYPE],

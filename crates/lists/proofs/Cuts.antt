@@ -2,7 +2,7 @@
 -- of a number and every size of a part, from the laws of parts of bytes. And what such a write answers.
 -- Assumes nothing.
 use mathlib.Core.Path.{_≡_, sym, ap, _∙_, subst}
-use Prim.Native.Nat.{ℕ, zero, suc, _+_, _-_, _*_, _/_, _≤_, _<_, min}
+use Prim.Native.Nat.{ℕ, zero, suc, _+_, _-_, _*_, _≤_, _<_, min}
 use mathlib.Core.Bool.{false}
 use mathlib.Core.List.{List, _∷_}
 use native.Mathlib.Omega.{arith}
@@ -14,7 +14,7 @@ use Rattle.facts.specs.Over.{over}
 use Rattle.facts.proofs.Least.{mul-least}
 use Rattle.rfc.specs.Numbers.{mostBytes, mostValue, firstRefusal}
 use Rattle.rfc.specs.Values.{numbers, notText}
-use Rattle.rfc.specs.Writing.{encode, writeSlice}
+use Rattle.rfc.specs.Writing.{encode, sizeInParts, writeSlice}
 use Rattle.rfc.specs.Typed.{digitsOf, encodeKind, oddPairs, codeChecks, writeKind}
 use Rattle.rfc.proofs.Numbers.{Clear, code-none}
 use Rattle.rfc.proofs.Readings.{no-text}
@@ -116,7 +116,7 @@ list-checked {kind} cut code place l room d h e =
 pub record Measured (kind width most code place : ℕ) (l room : List ℕ) (size : ℕ) : Type 0 where
   pub checked : Checked kind width most code place l room
   pub few : width * length l ≤ mostValue
-  pub size-is : size ≡ width * length l + 2 * ((width * length l + (width * most - 1)) / (width * most))
+  pub size-is : size ≡ sizeInParts (width * most) (width * length l)
 
 module _ {kind width most code place : ℕ} {l room : List ℕ} (s : Checked kind width most code place l room) where
   text : notText kind (digitsOf width l) ≡ false
@@ -135,7 +135,7 @@ module _ {kind width most code place : ℕ} {l room : List ℕ} {size : ℕ} (s 
   takes : length parts ≡ size
   takes =
       length-encode (width * most) (s .checked .cut .some) code bytes
-      ∙ ap (λ (k : ℕ). k + 2 * ((k + (width * most - 1)) / (width * most))) (length-digits-of width l)
+      ∙ ap (sizeInParts (width * most)) (length-digits-of width l)
       ∙ sym (s .size-is)
 
   -- only the end of the room can refuse it: it is the write of its parts as they stand

@@ -1,13 +1,13 @@
 // The writers of lists whose elements have two bytes or more, as the crate's `encode_long_opt_chunks` has them: a list is cut at whole
 // elements, and an empty one writes nothing.
-ghost use Prim.Native.Nat.{_+_, _-_, _*_, _/_, _%_, _≤_, _<_, min};
+ghost use Prim.Native.Nat.{_+_, _*_, _%_, _≤_};
 ghost use mathlib.Core.Path.{_≡_};
 ghost use mathlib.Core.Bool.{_&&_, not};
 ghost use mathlib.Core.List.{_∷_};
 ghost use lib.Dec.{eqb};
 ghost use lib.ListN.{length, take, drop};
 ghost use Rattle.facts.specs.Over.{over};
-ghost use Rattle.rfc.specs.Numbers.{mostValue, mostPart};
+ghost use Rattle.rfc.specs.Numbers.{mostPart};
 ghost use Rattle.rfc.specs.Values.{numbers};
 ghost use Rattle.rfc.specs.Writing.{encode};
 ghost use Rattle.rfc.specs.Typed.{digitsOf, writeKind};
@@ -57,7 +57,7 @@ pub fn write_u16s(room: &mut [u8], place: usize, code: u8, u16s: &[u16]) -> Writ
     if u16s.len() > MOST_VALUE / 2 {
         return Written::Refused(7);
     }
-    let size = size_in_parts(2 * u16s.len(), 2 * U16S_A_PART);
+    let size = parts::size_in_parts((2 * u16s.len()) as u16, (2 * U16S_A_PART) as u16);
     if size > room.len() - place {
         return Written::Refused(8);
     }
@@ -89,7 +89,7 @@ fn write_u32s_as(
     if numbers.len() > MOST_VALUE / 4 {
         return Written::Refused(7);
     }
-    let size = size_in_parts(4 * numbers.len(), 4 * most);
+    let size = parts::size_in_parts((4 * numbers.len()) as u16, (4 * most) as u16);
     if size > room.len() - place {
         return Written::Refused(8);
     }
@@ -108,21 +108,6 @@ fn odd_pairs(kind: u8, count: usize) -> bool
     false
 }
 
-// How many bytes so many bytes take in parts of `most`.
-fn size_in_parts(len: usize, most: usize) -> usize
-    requires { ⌜ (len ≤ mostValue) × (0 < most) × (most ≤ mostPart) ⌝ }
-    ensures { λ r. ⌜ r ≡ len + 2 * ((len + (most - 1)) / most) ⌝ }
-{
-    len + 2 * ((len + (most - 1)) / most)
-}
-
-// How many of so many elements the next part takes.
-fn next_piece(left: usize, most: usize) -> usize
-    ensures { λ r. ⌜ r ≡ min most left ⌝ }
-{
-    if left > most { most } else { left }
-}
-
 // Writes all parts of a list of numbers of four bytes, `most` of them a part.
 fn put_u32_parts(room: &mut [u8], place: usize, code: u8, numbers: &[u32], most: usize)
     requires { ⌜ Ready most 4 code place (now numbers) (now room) ⌝ }
@@ -131,7 +116,7 @@ fn put_u32_parts(room: &mut [u8], place: usize, code: u8, numbers: &[u32], most:
     let mut done: usize = 0;
     let mut from: usize = 0;
     while from < numbers.len() {
-        let n = next_piece(numbers.len() - from, most);
+        let n = parts::next_piece(numbers.len() - from, most);
         put_u32_part(room, place + done, code, numbers, from, n);
         done = done + 2 + 4 * n;
         from += n;
@@ -146,7 +131,7 @@ fn put_u16_parts(room: &mut [u8], place: usize, code: u8, numbers: &[u16], most:
     let mut done: usize = 0;
     let mut from: usize = 0;
     while from < numbers.len() {
-        let n = next_piece(numbers.len() - from, most);
+        let n = parts::next_piece(numbers.len() - from, most);
         put_u16_part(room, place + done, code, numbers, from, n);
         done = done + 2 + 2 * n;
         from += n;

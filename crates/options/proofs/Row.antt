@@ -1,7 +1,7 @@
 -- One row: which check decides, and what is so where none does.
 -- Assumes nothing.
 use mathlib.Core.Path.{_≡_, refl, sym, ap, _∙_}
-use Prim.Native.Nat.{ℕ, _+_, _-_, _*_, _/_, _≤_, _<_}
+use Prim.Native.Nat.{ℕ, _+_, _-_, _≤_, _<_}
 use mathlib.Core.Bool.{true, false}
 use mathlib.Core.List.{List, [], _∷_}
 use native.Mathlib.Omega.{arith}
@@ -13,7 +13,7 @@ use lib.Seq.{length-take-le}
 use Rattle.facts.specs.Over.{over}
 use Rattle.facts.proofs.Over.{over-nil}
 use Rattle.rfc.specs.Numbers.{given, refused, mostBytes, mostValue, mostPart, padCode, noCode, tooMuch}
-use Rattle.rfc.specs.Writing.{encode, answerTo, writeBytes}
+use Rattle.rfc.specs.Writing.{encode, sizeInParts, answerTo, writeBytes}
 use Rattle.rfc.proofs.Numbers.{Clear, here, later, done, next, pad-code, end-code, a-code, much, not-much, not-too-much}
 use Rattle.rfc.proofs.Alike.{none, both, passes-left, as-bytes}
 use Rattle.rfc.proofs.Writing.{Alike, length-encode, encode-empty, encode-once, checks-refuse, clear-8, clear-given, given-clear, given-to, given-fits, given-left}
@@ -66,9 +66,9 @@ module _ (code start len : ℕ) (values room : List ℕ) (place : ℕ) where
     length-value = length-take-le len (drop start values) (omega (arith, length-drop start values))
 
     -- and takes
-    pub length-row : length (encode mostPart code value) ≡ len + 2 * ((len + (mostPart - 1)) / mostPart)
+    pub length-row : length (encode mostPart code value) ≡ sizeInParts mostPart len
     length-row =
-        length-encode mostPart (lit< tt) code value ∙ ap (λ (n : ℕ). n + 2 * ((n + (mostPart - 1)) / mostPart)) length-value
+        length-encode mostPart (lit< tt) code value ∙ ap (sizeInParts mostPart) length-value
 
     -- in a room that is not too long, at a place of it, it is the write of a byte value
     pub row-bytes : code ≤ 255 → length room ≤ mostBytes → place ≤ length room
@@ -102,7 +102,7 @@ module _ (code start len : ℕ) (values room : List ℕ) (place : ℕ) where
           (later (stands-inside start len values a) (later good (here (much value (omega (arith, length-value))))))
 
       -- else only the room's end can refuse it
-      module _ (c : len ≤ mostValue) {size : ℕ} (s : size ≡ len + 2 * ((len + (mostPart - 1)) / mostPart)) where
+      module _ (c : len ≤ mostValue) {size : ℕ} (s : size ≡ sizeInParts mostPart len) where
         clear : Clear (writeRow code start len values .checks)
         unfolding writeRow
         clear = next (stands-inside start len values a) (next good (next (not-much value (omega (arith, length-value))) done))
@@ -141,11 +141,11 @@ module _ (code start len : ℕ) (values room : List ℕ) (place : ℕ) where
     unfolding writeRow
     passed-fits = given-fits _ room place to e
 
-    pub passed-takes : place + (len + 2 * ((len + (mostPart - 1)) / mostPart)) ≤ length room
+    pub passed-takes : place + sizeInParts mostPart len ≤ length room
     passed-takes = omega (arith, passed-fits, length-row passed-inside)
 
     -- and it is written where its bytes are put
-    pub passed-put : {room′ : List ℕ} {size : ℕ} → size ≡ len + 2 * ((len + (mostPart - 1)) / mostPart)
+    pub passed-put : {room′ : List ℕ} {size : ℕ} → size ≡ sizeInParts mostPart len
         → room′ ≡ over room place (encode mostPart code value) → Wrote (writeRow code start len values) room room′ place (To (place + size))
     unfolding writeRow
     passed-put s p =
@@ -153,14 +153,14 @@ module _ (code start len : ℕ) (values room : List ℕ) (place : ℕ) where
         (given-left _ room place to e ∙ sym p)
 
     -- by the two ends of its value; as one part; and with none
-    pub passed-parts : {room′ : List ℕ} {size : ℕ} → size ≡ len + 2 * ((len + (mostPart - 1)) / mostPart)
+    pub passed-parts : {room′ : List ℕ} {size : ℕ} → size ≡ sizeInParts mostPart len
         → room′ ≡ over room place (encode mostPart code (take (start + len - start) (drop start values)))
         → Wrote (writeRow code start len values) room room′ place (To (place + size))
     passed-parts s p =
         let n : start + len - start ≡ len = omega arith in
         passed-put s (p ∙ ap (λ (k : ℕ). over room place (encode mostPart code (take k (drop start values)))) n)
 
-    pub passed-part : {room′ : List ℕ} {size : ℕ} → 0 < len → len ≤ mostPart → size ≡ len + 2 * ((len + (mostPart - 1)) / mostPart)
+    pub passed-part : {room′ : List ℕ} {size : ℕ} → 0 < len → len ≤ mostPart → size ≡ sizeInParts mostPart len
         → room′ ≡ over room place (code ∷ len ∷ value) → Wrote (writeRow code start len values) room room′ place (To (place + size))
     passed-part h g s p =
         let l = length-value passed-inside in
@@ -168,7 +168,7 @@ module _ (code start len : ℕ) (values room : List ℕ) (place : ℕ) where
         ap (λ (n : ℕ). code ∷ n ∷ value) (sym l) ∙ sym (encode-once mostPart code value (omega (arith, l)) (omega (arith, l))) in
         passed-put s (p ∙ ap (over room place) once)
 
-    pub passed-none : {size : ℕ} → len ≤ 0 → size ≡ len + 2 * ((len + (mostPart - 1)) / mostPart)
+    pub passed-none : {size : ℕ} → len ≤ 0 → size ≡ sizeInParts mostPart len
         → Wrote (writeRow code start len values) room room place (To (place + size))
     passed-none h s =
         let l = length-value passed-inside in

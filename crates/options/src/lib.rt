@@ -4,10 +4,10 @@ pub mod rows;
 
 ghost use mathlib.Core.Path.{_≡_};
 ghost use mathlib.Core.List.{_∷_};
-ghost use Prim.Native.Nat.{_+_, _≤_, min};
+ghost use Prim.Native.Nat.{_+_, _≤_};
 ghost use lib.ListN.{length, take, drop};
 ghost use Rattle.facts.specs.Over.{over};
-ghost use Rattle.rfc.specs.Numbers.{mostPart};
+ghost use Rattle.rfc.specs.Numbers.{mostValue, mostPart};
 ghost use Rattle.rfc.specs.Writing.{encode, writeSlice, writeBytes, close};
 ghost use Rattle.encoder.specs.Written.{Wrote};
 use encoder::Written;
@@ -59,13 +59,13 @@ pub fn close(room: &mut [u8], place: usize) -> Written
     Written::To(to)
 }
 
-// Writes a value of any length in its parts, if they fit.
+// Writes a value in its parts, if they fit.
 fn write_parts(room: &mut [u8], place: usize, code: u8, value: &[u8]) -> Written
-    requires { ⌜ place ≤ length (now room) ⌝ }
+    requires { ⌜ (place ≤ length (now room)) × (length (now value) ≤ mostValue) ⌝ }
     ensures { λ r. ⌜ Wrote (writeSlice (encode mostPart code (now (value .entry))) (now (room .entry)) place)
         (now (room .entry)) (now (room .exit)) place r ⌝ }
 {
-    let size = value.len() + 2 * ((value.len() + (MOST_PART - 1)) / MOST_PART);
+    let size = parts::size_in_parts(value.len() as u16, MOST_PART as u16);
     if size > room.len() - place {
         return Written::Refused(8);
     }
@@ -99,18 +99,11 @@ pub(crate) fn put_parts(room: &mut [u8], place: usize, code: u8, value: &[u8])
     let mut done: usize = 0;
     let mut from: usize = 0;
     while from < value.len() {
-        let n = next_piece(value.len() - from);
+        let n = parts::next_piece(value.len() - from, MOST_PART);
         put_part(room, place + done, code, value, from, n);
         done = done + 2 + n;
         from += n;
     }
-}
-
-// How many of so many bytes the next part takes.
-fn next_piece(left: usize) -> usize
-    ensures { λ r. ⌜ r ≡ min mostPart left ⌝ }
-{
-    if left > MOST_PART { MOST_PART } else { left }
 }
 
 // Writes one part: the code, the length, the `n` bytes of `value` from `from` on.

@@ -1,9 +1,8 @@
 // Options written in one call from lent rows, all of them or none: one pass over the rows judges them, and a second one writes them.
 ghost use mathlib.Core.Path.{_≡_};
-ghost use Prim.Native.Nat.{_+_, _-_, _*_, _/_, _≤_};
-ghost use lib.ListN.{length};
+ghost use Prim.Native.Nat.{_≤_};
 ghost use Rattle.rfc.specs.Numbers.{mostValue, mostPart};
-ghost use Rattle.rfc.specs.Writing.{answerTo};
+ghost use Rattle.rfc.specs.Writing.{sizeInParts, answerTo};
 ghost use Rattle.encoder.specs.Written.{says, Wrote};
 ghost use Rattle.encoder.specs.declared.Written.the-variants.{To};
 ghost use Rattle.options.specs.Rows.{writeRow, rowsFrom, answerOf, roomOf, WroteRows, InRoom, Passes, AllPass};
@@ -106,10 +105,10 @@ fn judge_row(
 // How many bytes a value of so many takes. One part needs no division.
 fn size_of(len: usize) -> usize
     requires { ⌜ len ≤ mostValue ⌝ }
-    ensures { λ r. ⌜ r ≡ len + 2 * ((len + (mostPart - 1)) / mostPart) ⌝ }
+    ensures { λ r. ⌜ r ≡ sizeInParts mostPart len ⌝ }
 {
     if len > MOST_PART {
-        return len + 2 * ((len + (MOST_PART - 1)) / MOST_PART);
+        return parts::size_in_parts(len as u16, MOST_PART as u16);
     }
     if len == 0 {
         return 0;

@@ -1,5 +1,6 @@
 -- The worked examples of docs/READING.md hold: both sides of an equation are computed, and what is none is shown by its numbers.
 -- Assumes nothing.
+use Rattle.facts.specs.BigEndian.{numberAt}
 use mathlib.Core.Path.{refl}
 use mathlib.Core.List.{[], _∷_, flatten}
 use native.Mathlib.Omega.{arith}
@@ -21,8 +22,8 @@ use Rattle.promises.specs.Order.{follows}
 use Rattle.promises.specs.Worked.{abc, OfGeneral, OfNumbers, OfHeader, OfWalk, OfKinds, OfText, OfValues, OfWriting, OfTyped, OfRoutes, OfLists}
 
 pub of-general : OfGeneral
-unfolding over piecesIn pieces within lookup
-of-general = (refl, refl, refl, refl, refl, refl, refl)
+unfolding over piecesIn pieces within lookup numberAt
+of-general = (refl, refl, refl, refl, refl, refl, refl, refl, refl)
 
 pub of-numbers : OfNumbers
 unfolding piecesIn pieces within lookup andThen tooLong tooShort pastEnd noElement noCode tooMuch noRoom checked firstRefusal extend furtherIn further joined behind walk roomFor stepChecks step kinds kindOf sizes sizeOf rules ruleFor wrongLength readChecks read partsOf encode follows
@@ -50,7 +51,7 @@ of-values = (refl, refl, refl, refl, refl, refl, refl, refl, refl, refl, refl, r
 
 pub of-writing : OfWriting
 unfolding over piecesIn pieces tooLong pastEnd noCode tooMuch noRoom checked partsOf encode writeChecks answerTo roomLeft roomAfter writeSlice writeBytes intoRoom close
-of-writing = (refl, refl, refl, refl, refl, refl, refl, refl)
+of-writing = (refl, refl, refl, refl, refl, refl, refl, refl, refl, refl)
 
 -- a list of codes, each below 256
 of-below : Below 256 (1 ∷ 3 ∷ 6 ∷ [])

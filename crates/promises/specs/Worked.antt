@@ -11,14 +11,14 @@ use lib.ListN.{length, replicate}
 use Rattle.facts.specs.Over.{over}
 use Rattle.facts.specs.Pieces.{pieces}
 use Rattle.facts.specs.Ranges.{lookup, row}
-use Rattle.facts.specs.BigEndian.{digits, number, signed, unsigned}
+use Rattle.facts.specs.BigEndian.{digits, number, numberAt, signed, unsigned}
 use Rattle.rfc.specs.Numbers.{andThen, check, checked, firstRefusal, given, mostPart, needs, noCode, noElement, noRoom, order, pastEnd, refused, tooLong, tooMuch, tooShort}
 use Rattle.rfc.specs.Header.{area, chaddr, chaddrPart, field, fileField, flags, hlen, magic, magicField, magicRight, options, part, sname, untilZero, wrongMagic, xid, yiaddr}
 use Rattle.rfc.specs.Walk.{behind, cut, cutContinuation, cutLength, cutValue, end, extend, further, joinAfter, joined, option, out, placeAfter, roomFor, run, step, stop, walk}
 use Rattle.rfc.specs.Kinds.{from, has, kindOf, only, sizeOf}
 use Rattle.rfc.specs.Text.{lead, owes, tail, utf8}
 use Rattle.rfc.specs.Values.{Content, Value, atLeast, breaks, element, elementAt, elements, exactly, hNode, integer, multiple, natural, nodeOf, notText, nothing, numbers, numbersOf, plain, read, readOption, ruleFor, stopped, strict, truth, unclear, unknown, valueOf, valued, widthOf, wrongLength}
-use Rattle.rfc.specs.Writing.{answerTo, close, encode, partsOf, roomAfter, writeBytes, writeSlice}
+use Rattle.rfc.specs.Writing.{sizeInParts, answerTo, close, encode, partsOf, roomAfter, writeBytes, writeSlice}
 use Rattle.rfc.specs.Typed.{Apart, Below, Empty, Proper, Seconds, encodeKind, oddPairs, otherKind, partSize, writeValue}
 use Rattle.rfc.specs.Routes.{routeBytes, significant, tooWide, writeRoutes}
 use Rattle.rfc.specs.Lists.{Bytes, Ending, Opt, Valid, encodeAll, finished, listing, writeAll}
@@ -52,6 +52,8 @@ OfGeneral =
     × (pieces 2 (1 ∷ 2 ∷ 3 ∷ []) ≡ (1 ∷ 2 ∷ []) ∷ (3 ∷ []) ∷ [])
     × (lookup false (row 3 11 true ∷ []) 7 ≡ true)
     × (number (5 ∷ 220 ∷ []) ≡ 1500)
+    × (numberAt 2 (0 ∷ 5 ∷ 220 ∷ []) 1 ≡ 1500)
+    × (numberAt 2 (0 ∷ 5 ∷ 220 ∷ []) 2 ≡ 0)
     × (digits 2 1500 ≡ 5 ∷ 220 ∷ [])
     × (signed 0xffffc7c0 ≡ negsuc 14399)
     × (unsigned (negsuc 0) ≡ 4294967295)
@@ -153,6 +155,8 @@ abbrev pub OfWriting : Type 0
 OfWriting =
     (partsOf 12 ((97 ∷ 98 ∷ []) ∷ (99 ∷ []) ∷ []) ≡ 12 ∷ 2 ∷ 97 ∷ 98 ∷ 12 ∷ 1 ∷ 99 ∷ [])
     × (encode 255 12 [] ≡ [])
+    × (sizeInParts 255 256 ≡ 260)
+    × (sizeInParts 255 0 ≡ 0)
     × (answerTo (close (0 ∷ 0 ∷ []) 1) (0 ∷ 0 ∷ []) 1 ≡ given 2)
     × (answerTo (close (0 ∷ 0 ∷ []) 2) (0 ∷ 0 ∷ []) 2 ≡ refused 8)
     × (roomAfter (close (0 ∷ 0 ∷ []) 1) (0 ∷ 0 ∷ []) 1 ≡ 0 ∷ 255 ∷ [])

@@ -85,11 +85,11 @@ fn write(room: &mut [u8], code: u8, kind: u8, content: &[u8]) -> Written {
 fn write_number(room: &mut [u8], code: u8, kind: u8, content: &[u8]) -> Written {
     let byte = byte_at(content, 0);
     match kind {
-        kinds::ADDRESS => typed::write_address(room, PLACE, code, u32_at(content, 0)),
+        kinds::ADDRESS => typed::write_address(room, PLACE, code, decoder::u32_at(content, 0)),
         kinds::BYTE => typed::write_byte(room, PLACE, code, byte),
         kinds::YES_NO => typed::write_yes_no(room, PLACE, code, byte == 1),
-        kinds::U16 => typed::write_u16(room, PLACE, code, u16_at(content, 0)),
-        kinds::U32 => typed::write_u32(room, PLACE, code, u32_at(content, 0)),
+        kinds::U16 => typed::write_u16(room, PLACE, code, decoder::u16_at(content, 0)),
+        kinds::U32 => typed::write_u32(room, PLACE, code, decoder::u32_at(content, 0)),
         kinds::I32 => typed::write_i32(room, PLACE, code, i32_at(content)),
         kinds::NODE_TYPE => typed::write_node_type(room, PLACE, code, Node::Unknown(byte)),
         kinds::MESSAGE_TYPE => typed::write_message_type(room, PLACE, code, byte),
@@ -107,7 +107,7 @@ fn write_number(room: &mut [u8], code: u8, kind: u8, content: &[u8]) -> Written 
 
 // A list: its count in two bytes, then its elements.
 fn write_list(room: &mut [u8], code: u8, kind: u8, content: &[u8]) -> Written {
-    let count = u16_at(content, 0) as usize;
+    let count = decoder::u16_at(content, 0) as usize;
     match kind {
         kinds::ADDRESSES => write_addresses(
             room,
@@ -150,7 +150,7 @@ fn u32s_of(bytes: &[u8]) -> [u32; 1024] {
     let mut numbers = [0u32; 1024];
     let mut i: usize = 0;
     while i < 1024 {
-        numbers[i] = u32_at(bytes, i * 4);
+        numbers[i] = decoder::u32_at(bytes, i * 4);
         i += 1;
     }
     numbers
@@ -160,7 +160,7 @@ fn u16s_of(bytes: &[u8]) -> [u16; 2048] {
     let mut numbers = [0u16; 2048];
     let mut i: usize = 0;
     while i < 2048 {
-        numbers[i] = u16_at(bytes, i * 2);
+        numbers[i] = decoder::u16_at(bytes, i * 2);
         i += 1;
     }
     numbers
@@ -170,8 +170,8 @@ fn u16s_of(bytes: &[u8]) -> [u16; 2048] {
 fn write_route(room: &mut [u8], content: &[u8]) -> Written {
     let route = Route {
         width: byte_at(content, 0),
-        destination: u32_at(content, 1),
-        gateway: u32_at(content, 5),
+        destination: decoder::u32_at(content, 1),
+        gateway: decoder::u32_at(content, 5),
     };
     routes::write_route(room, PLACE, route)
 }
@@ -182,21 +182,6 @@ fn byte_at(bytes: &[u8], at: usize) -> u8 {
         return 0;
     }
     bytes[at]
-}
-
-fn u16_at(bytes: &[u8], at: usize) -> u16 {
-    let two = borrowed::part(bytes, at, 2);
-    decoder::be_u16(byte_at(two, 0), byte_at(two, 1))
-}
-
-fn u32_at(bytes: &[u8], at: usize) -> u32 {
-    let four = borrowed::part(bytes, at, 4);
-    decoder::be_u32(
-        byte_at(four, 0),
-        byte_at(four, 1),
-        byte_at(four, 2),
-        byte_at(four, 3),
-    )
 }
 
 fn i32_at(bytes: &[u8]) -> i32 {

@@ -1,7 +1,7 @@
 -- The laws of `specs/Writing.antt`: the bytes of a value, and each writer by its checks.
 -- Assumes nothing.
 use mathlib.Core.Path.{_≡_, refl, sym, ap, _∙_}
-use Prim.Native.Nat.{ℕ, _+_, _-_, _*_, _/_, _≤_, _<_, min}
+use Prim.Native.Nat.{ℕ, _+_, _*_, _≤_, _<_, min}
 use native.Mathlib.Omega.{arith}
 use mathlib.Core.List.{List, [], _∷_, _++_, flatten, append-nil}
 use lib.ListN.{length, take, drop, length-append, length-take, drop-of-length-le}
@@ -13,7 +13,7 @@ use Rattle.facts.proofs.Over.{length-over}
 use Rattle.facts.proofs.Least.{take-least, drop-least}
 use Rattle.facts.proofs.Pieces.{pieces-none, pieces-more, flatten-pieces, count-pieces}
 use Rattle.rfc.specs.Numbers.{Answer, given, refused, needs, mostBytes, mostValue, mostPart, padCode, endCode, tooLong, pastEnd, noRoom, Check, check, checked}
-use Rattle.rfc.specs.Writing.{partsOf, encode, Write, writeChecks, answerTo, roomLeft, roomAfter, writeSlice, intoRoom, writeBytes, close}
+use Rattle.rfc.specs.Writing.{partsOf, encode, sizeInParts, Write, writeChecks, answerTo, roomLeft, roomAfter, writeSlice, intoRoom, writeBytes, close}
 use Rattle.rfc.proofs.Alike.{clear-slice}
 use Rattle.rfc.proofs.Numbers.{Refuses, here, later, refuses, Clear, done, next, clears, passes, refuses-front, refuses-behind, clear-both, clear-front, clear-last, given-no, needs-no, long, not-long, past, not-past, pad-code, end-code, a-code, much, not-much, full, not-full, room-left}
 
@@ -38,7 +38,7 @@ module _ (size : ℕ) (some : 0 < size) (code : ℕ) where
   unfolding encode partsOf
   encode-more v h = ap (partsOf code) (pieces-more size some v h)
 
-  pub length-encode : (v : List ℕ) → length (encode size code v) ≡ length v + 2 * ((length v + (size - 1)) / size)
+  pub length-encode : (v : List ℕ) → length (encode size code v) ≡ sizeInParts size (length v)
   unfolding encode
   length-encode v =
       omega (arith, length-parts code (pieces size v), count-pieces size some v, ap length (flatten-pieces size some v))

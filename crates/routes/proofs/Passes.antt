@@ -7,10 +7,11 @@ use mathlib.Core.List.{List, foldl}
 use lib.ListN.{length, set}
 use borrow.Author.Tests.{le-ltb, lt-ltb, eq-eqb, ne-eqb, le-leb, lt-leb}
 use Rattle.rfc.specs.Numbers.{given, refused, mostBytes, mostValue, mostPart}
+use Rattle.rfc.specs.Writing.{sizeInParts}
 use Rattle.rfc.specs.Routes as rfc
 use Rattle.routes.specs.Rows.{rowOf}
 use Rattle.routes.specs.Passes.{State, first, refuse, longer, second, headed, onward}
-use Rattle.routes.specs.Passes.{begun, measured, inParts, turned, opened, added, put, passed, answered}
+use Rattle.routes.specs.Passes.{begun, measured, turned, opened, added, put, passed, answered}
 use Rattle.routes.specs.declared.Pass.{Pass}
 use Rattle.routes.specs.declared.Route.{Route}
 
@@ -52,13 +53,13 @@ module _ (p : Pass) (n : ℕ) where
   unfolding turned
   turned-7 h g = rw (le-ltb 0 (p .refusal) h, lt-ltb mostValue (p .len) g)
 
-  pub turned-8 : p .refusal ≤ 0 → p .len ≤ mostValue → n < p .at + inParts (p .len) → turned p n ≡ refuse 8 p
+  pub turned-8 : p .refusal ≤ 0 → p .len ≤ mostValue → n < p .at + sizeInParts mostPart (p .len) → turned p n ≡ refuse 8 p
   unfolding turned
-  turned-8 h g f = rw (le-ltb 0 (p .refusal) h, le-ltb mostValue (p .len) g, lt-ltb n (p .at + inParts (p .len)) f)
+  turned-8 h g f = rw (le-ltb 0 (p .refusal) h, le-ltb mostValue (p .len) g, lt-ltb n (p .at + sizeInParts mostPart (p .len)) f)
 
-  pub turned-second : p .refusal ≤ 0 → p .len ≤ mostValue → p .at + inParts (p .len) ≤ n → turned p n ≡ second p
+  pub turned-second : p .refusal ≤ 0 → p .len ≤ mostValue → p .at + sizeInParts mostPart (p .len) ≤ n → turned p n ≡ second p
   unfolding turned
-  turned-second h g f = rw (le-ltb 0 (p .refusal) h, le-ltb mostValue (p .len) g, le-ltb n (p .at + inParts (p .len)) f)
+  turned-second h g f = rw (le-ltb 0 (p .refusal) h, le-ltb mostValue (p .len) g, le-ltb n (p .at + sizeInParts mostPart (p .len)) f)
 
 -- the head of a part, and a byte of it
 module _ (p : Pass) (room : List ℕ) where

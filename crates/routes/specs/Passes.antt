@@ -1,11 +1,12 @@
 -- Two passes over a table: the first measures the value, the second writes it byte by byte. What each does to its state and to the room.
 -- Assumes nothing.
-use Prim.Native.Nat.{ℕ, _+_, _-_, _*_, _/_, min}
+use Prim.Native.Nat.{ℕ, _+_, _-_, min}
 use mathlib.Core.Bool.{true, false, cond}
 use mathlib.Core.List.{List, foldl}
 use lib.Dec.{eqb, leb, ltb}
 use lib.ListN.{length, set}
 use Rattle.rfc.specs.Numbers.{Answer, given, refused, mostBytes, mostValue, mostPart}
+use Rattle.rfc.specs.Writing.{sizeInParts}
 use Rattle.rfc.specs.Routes as rfc
 use Rattle.routes.specs.declared.Route.{Route}
 use Rattle.routes.specs.declared.Pass.{Pass}
@@ -48,15 +49,11 @@ unfoldable pub measured : Pass → rfc.Route → Pass
 measured p r =
     cond (ltb rfc.mostWidth (r .width)) (refuse 12 p) (cond (ltb mostValue (p .len)) p (longer (length (rfc.routeBytes r)) p))
 
--- the bytes of a value of so many, in parts
-abbrev pub inParts : ℕ → ℕ
-inParts n = n + 2 * ((n + (mostPart - 1)) / mostPart)
-
 -- between the passes, with a room of n bytes: 7 and 8
 unfoldable pub turned : Pass → ℕ → Pass
 turned p n =
     cond (ltb 0 (p .refusal)) p
-    (cond (ltb mostValue (p .len)) (refuse 7 p) (cond (ltb n (p .at + inParts (p .len))) (refuse 8 p) (second p)))
+    (cond (ltb mostValue (p .len)) (refuse 7 p) (cond (ltb n (p .at + sizeInParts mostPart (p .len))) (refuse 8 p) (second p)))
 
 -- where no byte of a part is to come, the head of the next part is put, if it fits
 unfoldable pub opened : State → State

@@ -5,7 +5,6 @@ ghost use mathlib.Core.List.{[], _∷_, foldl};
 ghost use Prim.Native.Nat.{_≤_, min};
 ghost use lib.ListN.{take};
 ghost use Rattle.facts.specs.BigEndian.{digits};
-ghost use Rattle.rfc.specs.Numbers.{mostPart};
 ghost use Rattle.rfc.specs.Routes as rfc;
 ghost use Rattle.encoder.specs.Written.{says, Wrote};
 ghost use Rattle.routes.specs.Rows.{rowOf, rowsOf};
@@ -160,7 +159,7 @@ fn turn_over(mut pass: Pass, n: usize) -> Pass
         pass.refusal = 8;
         return pass;
     }
-    if len + 2 * ((len + (MOST_PART - 1)) / MOST_PART) > n - pass.at {
+    if parts::size_in_parts(len as u16, MOST_PART as u16) > n - pass.at {
         pass.refusal = 8;
         return pass;
     }
@@ -227,23 +226,13 @@ fn open_part(room: &mut [u8], mut pass: Pass) -> Pass
     if at > room.len() - 2 {
         return pass;
     }
-    let n = next_part(pass.len);
+    let n = parts::next_piece(pass.len, MOST_PART);
     room[at] = ROUTES_CODE;
     room[at + 1] = n as u8;
     pass.at = at + 2;
     pass.part = n;
     pass.len = pass.len - n;
     pass
-}
-
-// How many of so many bytes the next part takes.
-fn next_part(len: usize) -> usize
-    ensures { λ r. ⌜ r ≡ min mostPart len ⌝ }
-{
-    if len > MOST_PART {
-        return MOST_PART;
-    }
-    len
 }
 
 // Puts one byte of a part, if one is to come and it fits.

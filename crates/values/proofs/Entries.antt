@@ -1,13 +1,15 @@
 -- The element at an index of a list, as the code reads it.
 -- Assumes nothing.
 use mathlib.Core.Path.{_≡_, refl, sym, ap, _∙_}
-use Prim.Native.Nat.{ℕ, _+_, _*_, _/_, _≤_, _<_}
+use Prim.Native.Nat.{ℕ, _+_, _-_, _*_, _/_, _≤_, _<_}
 use mathlib.Core.Bool.{false}
 use mathlib.Core.List.{List, [], _∷_}
 use native.Mathlib.Nat.{one-mul}
 use native.Mathlib.Omega.{arith}
-use lib.ListN.{length, take, drop, getD}
-use Rattle.facts.specs.BigEndian.{number}
+use lib.ListN.{length, take, drop, getD, length-drop}
+use lib.Seq.{drop-drop}
+use Rattle.facts.specs.BigEndian.{number, numberAt}
+use Rattle.facts.proofs.BigEndian.{number-front}
 use Rattle.facts.proofs.Pieces.{piece-lies}
 use Rattle.rfc.specs.Numbers.{given, refused}
 use Rattle.rfc.specs.Kinds.{kindOf, sizeOf}
@@ -49,10 +51,18 @@ module _ {kind index : ℕ} {v : List ℕ} (e : Entry kind v index) {k width n :
     pub lies : index * size + n * width ≤ length v
     lies = rw (← size-is, s, is) (piece-lies (sizeOf k) (length v) index below)
 
+    -- a number of it is the one in its own bytes
+    pub number-in : (i : ℕ) → i + width ≤ n * width
+        → numberAt width (take (index * size + size - index * size) (drop (index * size) v)) i
+        ≡ number (take width (drop i (drop (index * size) v)))
+    number-in i h =
+        number-front width (drop (index * size) v) i (index * size + size - index * size) (omega (arith, size-is))
+        (omega (arith, size-is, lies, length-drop (index * size) v))
+
 module _ {kind index size : ℕ} {v : List ℕ} (e : Entry kind v index) (s : size ≡ sizeOf kind) where
-  -- it begins inside, whatever the list
-  pub within : index * size ≤ length v
-  within = let h = lies e refl (e .is-list) s in omega arith
+  -- it lies inside, whatever the list
+  pub within : index * size + size ≤ length v
+  within = omega (arith, lies e refl (e .is-list) s, size-is e refl (e .is-list) s)
 
   -- an element of one number
   pub one : {k width : ℕ} (is : kind ≡ k) → Listed k width 1 → (x : ℕ) → x ≡ number (take width (drop (index * size) v))
@@ -62,11 +72,11 @@ module _ {kind index size : ℕ} {v : List ℕ} (e : Entry kind v index) (s : si
       rw (is, one-entry l v (right e is l) index (below e is l), f, at)
 
   -- a pair
-  pub two : kind ≡ 3 → (x y : ℕ) → x ≡ number (take 4 (drop (index * size) v)) → y ≡ number (take 4 (drop (index * size + 4) v))
+  pub two : kind ≡ 3 → (x y : ℕ) → x ≡ number (take 4 (drop (index * size) v)) → y ≡ number (take 4 (drop 4 (drop (index * size) v)))
       → given (record { kind = 3; entries = x ∷ y ∷ [] }) ≡ entryAt kind v index
   two is x y f g =
       let at : index * size ≡ index * 8 = start e is pairs s in
-      rw (is, pair-entries v (right e is pairs) index (below e is pairs), f, g, at)
+      rw (is, pair-entries v (right e is pairs) index (below e is pairs), f, g, drop-drop 4 (index * size) v, at)
 
 -- what has elements is a list
 entry-of : (r : Value) (v : List ℕ) (index : ℕ) → index < countOf r → wrongLength plain (says r v .kind) v ≡ false

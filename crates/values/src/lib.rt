@@ -2,10 +2,9 @@
 pub mod answer;
 mod rules;
 
-ghost use Prim.Native.Nat.{_+_, _/_, _≤_, _<_};
+ghost use Prim.Native.Nat.{_/_, _<_};
 ghost use mathlib.Core.Path.{_≡_};
-ghost use lib.ListN.{length, take, drop};
-ghost use Rattle.facts.specs.BigEndian.{number};
+ghost use lib.ListN.{length};
 ghost use Rattle.rfc.specs.Numbers.{given};
 ghost use Rattle.rfc.specs.Kinds.{sizeOf};
 ghost use Rattle.rfc.specs.Values as rfc;
@@ -75,14 +74,14 @@ fn value_of(kind: u8, value: &[u8]) -> Value
 {
     match kind {
         kinds::RAW => Value::Raw,
-        kinds::ADDRESS => Value::Address(u32_at(value, 0)),
+        kinds::ADDRESS => Value::Address(decoder::be_u32(value[0], value[1], value[2], value[3])),
         kinds::ADDRESSES => Value::Addresses(count(kind, value)),
         kinds::PAIRS => Value::Pairs(count(kind, value)),
         kinds::BYTE => Value::Byte(value[0]),
         kinds::YES_NO => Value::YesNo(value[0] == 1),
-        kinds::U16 => Value::U16(u16_at(value, 0)),
+        kinds::U16 => Value::U16(decoder::be_u16(value[0], value[1])),
         kinds::U16S => Value::U16s(count(kind, value)),
-        kinds::U32 => Value::U32(u32_at(value, 0)),
+        kinds::U32 => Value::U32(decoder::be_u32(value[0], value[1], value[2], value[3])),
         kinds::I32 => Value::I32(decoder::be_i32(value[0], value[1], value[2], value[3])),
         kinds::TEXT => Value::Text,
         kinds::CODES => Value::Codes(count(kind, value)),
@@ -127,22 +126,6 @@ pub fn byte_of(node: Node) -> u8
     }
 }
 
-// The number that two bytes from `at` on are.
-fn u16_at(value: &[u8], at: usize) -> u16
-    requires { ⌜ at + 2 ≤ length (now value) ⌝ }
-    ensures { λ r. ⌜ r ≡ number (take 2 (drop at (now (value .entry)))) ⌝ }
-{
-    decoder::be_u16(value[at], value[at + 1])
-}
-
-// The number that four bytes from `at` on are.
-fn u32_at(value: &[u8], at: usize) -> u32
-    requires { ⌜ at + 4 ≤ length (now value) ⌝ }
-    ensures { λ r. ⌜ r ≡ number (take 4 (drop at (now (value .entry)))) ⌝ }
-{
-    decoder::be_u32(value[at], value[at + 1], value[at + 2], value[at + 3])
-}
-
 // The element at an index of a list: addresses, pairs of them, u16s or codes. What is no list has no element.
 pub fn element(code: u8, value: &[u8], index: usize) -> Element
     ensures { λ r. ⌜ elementSays r ≡ rfc.element index (rfc.read rfc.plain code (now (value .entry))) ⌝ }
@@ -176,11 +159,13 @@ fn entry(kind: u8, value: &[u8], index: usize) -> Element
     requires { ⌜ Entry kind (now value) index ⌝ }
     ensures { λ r. ⌜ elementSays r ≡ entryAt kind (now (value .entry)) index ⌝ }
 {
-    let at = index * kinds::element_size(kind);
+    let size = kinds::element_size(kind);
+    let at = index * size;
+    let bytes = &value[at..at + size];
     match kind {
-        kinds::ADDRESSES => Element::Address(u32_at(value, at)),
-        kinds::PAIRS => Element::Pair(u32_at(value, at), u32_at(value, at + 4)),
-        kinds::U16S => Element::U16(u16_at(value, at)),
+        kinds::ADDRESSES => Element::Address(decoder::u32_at(bytes, 0)),
+        kinds::PAIRS => Element::Pair(decoder::u32_at(bytes, 0), decoder::u32_at(bytes, 4)),
+        kinds::U16S => Element::U16(decoder::u16_at(bytes, 0)),
         _ => Element::Code(value[at]),
     }
 }

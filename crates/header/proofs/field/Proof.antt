@@ -9,7 +9,7 @@ use Rattle.rfc.specs.Numbers.{given}
 use Rattle.rfc.specs.Header.{part, bytesOf, field}
 use Rattle.rfc.proofs.Header.{field-refused, field-given}
 use Rattle.header.specs.Header.{Whole}
-use Rattle.header.proofs.Readers.{refused-by, whole, clear}
+use Rattle.header.proofs.Readers.{refused-by, whole, clear, number-is}
 use borrow.Author.Needs.{needs}
 use Rattle.header.proofs.field.Statement.{statement}
 use Rattle.header.proofs.field.Tie as tie
@@ -34,11 +34,11 @@ returns c =
     let refuses = refused-by (a .message .now) (c .before .refusal-of .ensures) (c .if1 .taken) in
     sym (field-refused (a .message .now) (part (a .start) (a .size)) refuses)
 
-shared-slice-read-t7 : tie.Need-shared-slice-read-t7
-shared-slice-read-t7 c = omega (arith, there (c .before .before) .least)
+shared-slice-read-t8 : tie.Need-shared-slice-read-t8
+shared-slice-read-t8 c = omega (arith, there (c .before .before) .least)
 
-cast-t8 : tie.Need-cast-t8
-cast-t8 c = omega (arith, c .shared-slice-known2 .given (c .before .before .before .before .before .args .start))
+cast-t9 : tie.Need-cast-t9
+cast-t9 c = omega (arith, c .shared-slice-known2 .given (c .before .before .before .before .before .args .start))
 
 returns-2 : tie.Need-returns-2
 returns-2 c =
@@ -46,17 +46,18 @@ returns-2 c =
     let h = there (c .before .before) .least in
     reads (c .before .before) 1 _ (omega arith) (byte-at (a .message .now) (a .start) (omega (arith, h)))
 
-u16-at-requires : tie.Need-u16-at-requires
-u16-at-requires c κs = omega (arith, there (c .before .before) .least)
+part-head-end : tie.Need-part-head-end
+part-head-end c = there (c .before) .least
 
 returns-3 : tie.Need-returns-3
-returns-3 c = reads (c .before .before .before) 2 _ (omega arith) (c .u16-at .ensures)
-
-u32-at-requires : tie.Need-u32-at-requires
-u32-at-requires c κs = omega (arith, there (c .before .before) .least)
+returns-3 c =
+    let r = c .before .before .before .before in
+    reads r 2 _ (omega arith) (c .u16-at .ensures ∙ number-is _ (there r) _ 2 (omega arith))
 
 returns-4 : tie.Need-returns-4
-returns-4 c = reads (c .before .before .before) 4 _ (omega arith) (c .u32-at .ensures)
+returns-4 c =
+    let r = c .before .before .before .before in
+    reads r 4 _ (omega arith) (c .u32-at .ensures ∙ number-is _ (there r) _ 4 (omega arith))
 
 pub field-spec : {M : Type 1} → statement M
 field-spec =
@@ -64,12 +65,15 @@ field-spec =
     (tie.spec
     (λ c κs. search needs)
     returns
-    shared-slice-read-t7
-    cast-t8
+    shared-slice-read-t8
+    cast-t9
     returns-2
-    u16-at-requires
+    (λ c. search needs)
+    (λ c. search needs)
+    part-head-end
+    (λ c κs. search needs)
     (λ c. search needs)
     returns-3
-    u32-at-requires
+    (λ c κs. search needs)
     (λ c. search needs)
     returns-4)

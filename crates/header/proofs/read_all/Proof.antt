@@ -3,7 +3,7 @@
 use native.Mathlib.Omega.{arith}
 use Rattle.facts.proofs.Cells.{byte-at}
 use Rattle.rfc.proofs.Header.{sname-text, file-text}
-use Rattle.header.proofs.Readers.{fields, texts, magic-told}
+use Rattle.header.proofs.Readers.{fields, texts, number-is, magic-told}
 use borrow.Author.Needs.{needs}
 use Rattle.header.proofs.read_all.Statement.{statement}
 use Rattle.header.proofs.read_all.Tie as tie
@@ -15,12 +15,19 @@ returns c =
     let yiaddr = giaddr .before .before in
     let xid = yiaddr .before .before in
     let file = xid .before in
-    let s = file .before .before .before in
+    let s = file .before .before .before .before in
     let m = s .args .message .now in
     let w = s .pre in
     simp (
       fields m w,
       texts m w,
+      number-is m w 4 4 (omega arith),
+      number-is m w 8 2 (omega arith),
+      number-is m w 10 2 (omega arith),
+      number-is m w 12 4 (omega arith),
+      number-is m w 16 4 (omega arith),
+      number-is m w 20 4 (omega arith),
+      number-is m w 24 4 (omega arith),
       sname-text,
       file-text,
       byte-at m 0 (omega arith),
@@ -45,6 +52,9 @@ pub read-all-spec : {M : Type 1} → statement M
 read-all-spec =
     tie.close
     (tie.spec
+    (λ c. search needs)
+    (λ c. search needs)
+    (λ c. search needs)
     (λ c κs. search needs)
     (λ c κs. search needs)
     (λ c κs. search needs)

@@ -53,6 +53,8 @@ write-u16s-spec =
     returns-2
     (λ c. search needs)
     (λ c. search needs)
+    (λ c. search needs)
+    (λ c. search needs)
     (λ c κs. search needs)
     sub-if3
     (λ c. search needs)

@@ -68,6 +68,8 @@ write-u32s-as-spec =
     returns-3
     (λ c. search needs)
     (λ c. search needs)
+    (λ c. search needs)
+    (λ c. search needs)
     (λ c κs. search needs)
     sub-if4
     (λ c. search needs)

@@ -1,7 +1,6 @@
 -- `write_parts` meets its contract: its parts are measured, and then do not fit or are put.
 -- Assumes nothing.
-use mathlib.Core.Path.{_≡_}
-use Prim.Native.Nat.{_+_, _-_, _*_, _/_}
+use mathlib.Core.Path.{_≡_, sym, _∙_}
 use native.Mathlib.Omega.{arith}
 use lib.Dec.{lit<}
 use lib.ListN.{length}
@@ -14,19 +13,19 @@ use Rattle.options.proofs.write_parts.Statement.{statement}
 use Rattle.options.proofs.write_parts.Tie as tie
 
 -- how many bytes they are
-size : (c : tie.Start) → let n = length (c .args .value .now) in
-    length (encode mostPart (c .args .code) (c .args .value .now)) ≡ n + 2 * ((n + (mostPart - 1)) / mostPart)
-size c = length-encode mostPart (lit< tt) (c .args .code) (c .args .value .now)
+size : (c : tie.After-size-in-parts) → let a = c .before .before .before .args in
+    length (encode mostPart (a .code) (a .value .now)) ≡ c .size-in-parts .result
+size c = length-encode mostPart (lit< tt) _ _ ∙ sym (c .size-in-parts .ensures)
 
 returns : tie.Need-returns
-returns c = let s = c .before .before .before in no-room _ _ _ (s .pre) (omega (arith, size s))
+returns c = no-room _ _ _ (c .before .before .before .before .pre .0) (omega (arith, size (c .before)))
 
 put-parts-requires : tie.Need-put-parts-requires
-put-parts-requires c κs = omega (arith, size (c .before .before .before .before))
+put-parts-requires c κs = omega (arith, size (c .before .before))
 
 returns-2 : tie.Need-returns-2
 returns-2 c =
-    let size = size (c .before .before .before .before .before .before .before) in
+    let size = size (c .before .before .before .before .before) in
     puts _ _ _ (omega arith) _ (omega arith) (c .before .before .put-parts .ensures)
 
 pub write-parts-spec : {M : Type 1} → statement M
@@ -35,8 +34,7 @@ write-parts-spec =
     (tie.spec
     (λ c. search needs)
     (λ c. search needs)
-    (λ c. search needs)
-    (λ c. search needs)
+    (λ c κs. search needs)
     (λ c. search needs)
     returns
     (λ c. search needs)

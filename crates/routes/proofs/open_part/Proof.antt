@@ -30,7 +30,7 @@ returns-4 : tie.Need-returns-4
 returns-4 c =
     let tested = c .before .before in
     let a = tested .before .before .before .before .before .args in
-    let n = c .before .next-part in
+    let n = c .before .next-piece in
     sym (opened-head (a .pass) (a .room .now) (n .result) (tested .before .before .if1 .left) (omega arith) (n .ensures))
 
 pub open-part-spec : {M : Type 1} → statement M

@@ -25,13 +25,13 @@ returns-3 c =
 
 returns-4 : tie.Need-returns-4
 returns-4 c =
-    let fits = c .before .before .before .before in
+    let fits = c .before .before .before .before .before in
     let a = fits .before .before .before .args in
     sym (turned-8 (a .pass) (a .n) (fits .before .if1 .left) (omega arith) (omega arith))
 
 returns-5 : tie.Need-returns-5
 returns-5 c =
-    let fits = c .before .before .before .before in
+    let fits = c .before .before .before .before .before in
     let a = fits .before .before .before .args in
     sym (turned-second (a .pass) (a .n) (fits .before .if1 .left) (omega arith) (omega arith))
 
@@ -40,5 +40,5 @@ turn-over-spec =
     tie.close
     (tie.spec
     returns returns-2 returns-3
-    (λ c. search needs) (λ c. search needs) (λ c. search needs) (λ c. search needs)
+    (λ c. search needs) (λ c. search needs) (λ c κs. search needs)
     returns-4 returns-5)

@@ -19,6 +19,22 @@ use borrow.Author.Needs.{needs}
 use Rattle.values.proofs.value_of.Statement.{statement}
 use Rattle.values.proofs.value_of.Tie as tie
 
+-- the number of all bytes
+returns-2 : tie.Need-returns-2
+returns-2 c = let m = c .before .before .before .before .before in
+    let right = m .before .before .pre in
+    scalar right (m .match .keys2) address _ (rw (c .be-u32 .ensures, cells-are right (m .match .keys2) address)) refl tt
+
+returns-7 : tie.Need-returns-7
+returns-7 c = let m = c .before .before .before in
+    let right = m .before .before .pre in
+    scalar right (m .match .keys7) u16 _ (rw (c .be-u16 .ensures, cells-are right (m .match .keys7) u16)) refl tt
+
+returns-9 : tie.Need-returns-9
+returns-9 c = let m = c .before .before .before .before .before in
+    let right = m .before .before .pre in
+    scalar right (m .match .keys9) u32 _ (rw (c .be-u322 .ensures, cells-are right (m .match .keys9) u32)) refl tt
+
 returns-10 : tie.Need-returns-10
 returns-10 c = let m = c .before .before .before .before .before in
     let right = m .before .before .pre in
@@ -54,14 +70,24 @@ pub value-of-spec : {M : Type 1} → statement M
 value-of-spec =
     tie.close
     (tie.spec
-    (λ c κs. omega (arith, fits (c .before .before .pre) (c .match .keys2) address))
+    (λ c. let m = c .before in omega (arith, fits (m .before .before .pre) (m .match .keys2) address))
+    (λ c. let m = c .before .before in omega (arith, fits (m .before .before .pre) (m .match .keys2) address))
+    (λ c. let m = c .before .before .before in omega (arith, fits (m .before .before .pre) (m .match .keys2) address))
+    (λ c. let m = c .before .before .before .before in omega (arith, fits (m .before .before .pre) (m .match .keys2) address))
+    (λ c κs. search needs)
     (λ c κs. some-size (c .before .before .pre) (c .match .keys3) addresses)
     (λ c κs. some-size (c .before .before .pre) (c .match .keys4) pairs)
     (λ c. omega (arith, fits (c .before .before .before .pre) (c .before .match .keys5) byte))
     (λ c. omega (arith, fits (c .before .before .before .pre) (c .before .match .keys6) yesNo))
-    (λ c κs. omega (arith, fits (c .before .before .pre) (c .match .keys7) u16))
+    (λ c. let m = c .before in omega (arith, fits (m .before .before .pre) (m .match .keys7) u16))
+    (λ c. let m = c .before .before in omega (arith, fits (m .before .before .pre) (m .match .keys7) u16))
+    (λ c κs. search needs)
     (λ c κs. some-size (c .before .before .pre) (c .match .keys8) u16s)
-    (λ c κs. omega (arith, fits (c .before .before .pre) (c .match .keys9) u32))
+    (λ c. let m = c .before in omega (arith, fits (m .before .before .pre) (m .match .keys9) u32))
+    (λ c. let m = c .before .before in omega (arith, fits (m .before .before .pre) (m .match .keys9) u32))
+    (λ c. let m = c .before .before .before in omega (arith, fits (m .before .before .pre) (m .match .keys9) u32))
+    (λ c. let m = c .before .before .before .before in omega (arith, fits (m .before .before .pre) (m .match .keys9) u32))
+    (λ c κs. search needs)
     (λ c. omega (arith, fits (c .before .before .before .pre) (c .before .match .keys10) i32))
     (λ c. omega (arith, fits (c .before .before .before .before .pre) (c .before .before .match .keys10) i32))
     (λ c. omega (arith, fits (c .before .before .before .before .before .pre) (c .before .before .before .match .keys10) i32))
@@ -75,14 +101,14 @@ value-of-spec =
     (λ c. omega (arith, fits (c .before .before .before .before .pre) (c .before .before .match .keys15) threeBytes))
     (λ c. omega (arith, fits (c .before .before .before .before .before .pre) (c .before .before .before .match .keys15) threeBytes))
     (λ c. tells (c .before .before .pre) (c .match .keys1) case.Raw _ refl (raw-value _) (sym (raw-single _ 0)) tt)
-    (λ c. scalar (c .before .before .before .pre) (c .before .match .keys2) address _ (rw (c .u32-at .ensures)) refl tt)
+    returns-2
     (λ c. listed (c .before .before .before .pre) (c .before .match .keys3) addresses _ refl (c .count .ensures) tt)
     (λ c. listed (c .before .before .before .pre) (c .before .match .keys4) pairs _ refl (c .count2 .ensures) tt)
     (λ c. scalar-byte (c .before .before .before .pre) (c .before .match .keys5) byte (λ n. case.Byte n) refl refl tt)
     (λ c. scalar-byte (c .before .before .before .pre) (c .before .match .keys6) yesNo (λ n. case.YesNo (eqb n 1)) refl refl tt)
-    (λ c. scalar (c .before .before .before .pre) (c .before .match .keys7) u16 _ (rw (c .u16-at .ensures)) refl tt)
+    returns-7
     (λ c. listed (c .before .before .before .pre) (c .before .match .keys8) u16s _ refl (c .count3 .ensures) tt)
-    (λ c. scalar (c .before .before .before .pre) (c .before .match .keys9) u32 _ (rw (c .u32-at2 .ensures)) refl tt)
+    returns-9
     returns-10
     (λ c. tells (c .before .before .pre) (c .match .keys11) case.Text _ refl (text-value _) (sym (raw-single _ 10)) tt)
     (λ c. listed (c .before .before .before .pre) (c .before .match .keys12) codes _ refl (c .count4 .ensures) tt)
