@@ -1,7 +1,6 @@
 // How a value is cut into parts: how many bytes it takes so, and how many of its bytes the next part takes.
 ghost use mathlib.Core.Path.{_≡_};
-ghost use Prim.Native.Nat.{min};
-ghost use Rattle.rfc.specs.Writing.{sizeInParts};
+ghost use Rattle.rfc.specs.Writing.{sizeInParts, nextPart};
 
 // How many bytes so many bytes take in parts of `most`. No division is made by 0.
 pub fn size_in_parts(len: u16, most: u16) -> usize
@@ -17,7 +16,7 @@ pub fn size_in_parts(len: u16, most: u16) -> usize
 
 // How many of so many the next part takes, where it takes no more than `most`.
 pub fn next_piece(left: usize, most: usize) -> usize
-    ensures { λ r. ⌜ r ≡ min most left ⌝ }
+    ensures { λ r. ⌜ r ≡ nextPart most left ⌝ }
 {
     if left > most { most } else { left }
 }

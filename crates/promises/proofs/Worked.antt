@@ -51,7 +51,7 @@ of-values = (refl, refl, refl, refl, refl, refl, refl, refl, refl, refl, refl, r
 
 pub of-writing : OfWriting
 unfolding over piecesIn pieces tooLong pastEnd noCode tooMuch noRoom checked partsOf encode writeChecks answerTo roomLeft roomAfter writeSlice writeBytes intoRoom close
-of-writing = (refl, refl, refl, refl, refl, refl, refl, refl, refl, refl)
+of-writing = (refl, refl, refl, refl, refl, refl, refl, refl, refl, refl, refl)
 
 -- a list of codes, each below 256
 of-below : Below 256 (1 ∷ 3 ∷ 6 ∷ [])

@@ -18,7 +18,7 @@ use Rattle.rfc.specs.Walk.{behind, cut, cutContinuation, cutLength, cutValue, e
 use Rattle.rfc.specs.Kinds.{from, has, kindOf, only, sizeOf}
 use Rattle.rfc.specs.Text.{lead, owes, tail, utf8}
 use Rattle.rfc.specs.Values.{Content, Value, atLeast, breaks, element, elementAt, elements, exactly, hNode, integer, multiple, natural, nodeOf, notText, nothing, numbers, numbersOf, plain, read, readOption, ruleFor, stopped, strict, truth, unclear, unknown, valueOf, valued, widthOf, wrongLength}
-use Rattle.rfc.specs.Writing.{sizeInParts, answerTo, close, encode, partsOf, roomAfter, writeBytes, writeSlice}
+use Rattle.rfc.specs.Writing.{answerTo, close, encode, nextPart, partsOf, roomAfter, sizeInParts, writeBytes, writeSlice}
 use Rattle.rfc.specs.Typed.{Apart, Below, Empty, Proper, Seconds, encodeKind, oddPairs, otherKind, partSize, writeValue}
 use Rattle.rfc.specs.Routes.{routeBytes, significant, tooWide, writeRoutes}
 use Rattle.rfc.specs.Lists.{Bytes, Ending, Opt, Valid, encodeAll, finished, listing, writeAll}
@@ -157,6 +157,7 @@ OfWriting =
     × (encode 255 12 [] ≡ [])
     × (sizeInParts 255 256 ≡ 260)
     × (sizeInParts 255 0 ≡ 0)
+    × (nextPart 255 256 ≡ 255)
     × (answerTo (close (0 ∷ 0 ∷ []) 1) (0 ∷ 0 ∷ []) 1 ≡ given 2)
     × (answerTo (close (0 ∷ 0 ∷ []) 2) (0 ∷ 0 ∷ []) 2 ≡ refused 8)
     × (roomAfter (close (0 ∷ 0 ∷ []) 1) (0 ∷ 0 ∷ []) 1 ≡ 0 ∷ 255 ∷ [])

@@ -1,7 +1,7 @@
 -- How a value is written in parts, and what a write answers and leaves (RFC 2132, section 2; RFC 3396, section 6; document 01,
 -- "Writing").
 -- Assumes nothing.
-use Prim.Native.Nat.{ℕ, _+_, _-_, _*_, _/_}
+use Prim.Native.Nat.{ℕ, _+_, _-_, _*_, _/_, min}
 use mathlib.Core.List.{List, [], _∷_, _++_}
 use lib.ListN.{length}
 use Rattle.facts.specs.Over.{over}
@@ -20,6 +20,10 @@ encode size code v = partsOf code (pieces size v)
 -- how many bytes a value of so many takes in such parts: its own, and two for each part
 abbrev pub sizeInParts : ℕ → ℕ → ℕ
 sizeInParts size len = len + 2 * ((len + (size - 1)) / size)
+
+-- how many of the bytes that are left the next part takes
+abbrev pub nextPart : ℕ → ℕ → ℕ
+nextPart size left = min size left
 
 -- a write into a room at a place (document 01): its checks, in their order, and the bytes that it puts there
 pub record Write : Type 0 where
