@@ -7,7 +7,7 @@ use lib.ListN.{length, take, drop, set, length-set, length-drop}
 use lib.Seq.{length-take-le}
 use native.Mathlib.Omega.{arith}
 use Rattle.facts.specs.Over.{over}
-use Rattle.facts.proofs.Over.{over-part, over-all}
+use Rattle.facts.proofs.Over.{over-part, over-all, length-over}
 use Rattle.rfc.specs.Numbers.{given, refused}
 use Rattle.rfc.specs.Writing.{Write, answerTo, roomAfter, writeSlice}
 use Rattle.rfc.proofs.Writing.{Alike, refused-left, slice-4, slice-8, slice-given, slice-left}
@@ -77,16 +77,28 @@ put-part bytes room at n {part} e h w =
     let all : part ≡ bytes = put-over bytes _ part 0 _ (omega arith) w ∙ over-all _ bytes (omega arith) in
     ap (λ (p : List ℕ). take at room ++ (p ++ drop n (drop at room))) all ∙ over-part room at n bytes e
 
--- two stores, and behind them a writer's bytes, which are made of n elements of a list: a part
-pub part-put : (make : List ℕ → List ℕ) (room l : List ℕ) (at code size from n : ℕ) → length (make (take n (drop from l))) ≡ size
-    → at + (2 + size) ≤ length room → {room′ : List ℕ} {r : Written}
-    → Wrote (writeSlice (make (take (from + n - from) (drop from l))) (set (set room at code) (at + 1) size) (at + 2))
-    (set (set room at code) (at + 1) size) room′ (at + 2) r
-    → room′ ≡ over room at (code ∷ size ∷ make (take n (drop from l)))
-part-put make room l at code size from n e h w =
-    let bytes : List ℕ = make (take n (drop from l)) in
-    let stored : List ℕ = set (set room at code) (at + 1) size in
-    let k : from + n - from ≡ n = omega arith in
-    let s : length stored ≡ length room = simp length-set in
-    put-over bytes stored _ (at + 2) _ (omega arith) (same-bytes (ap (λ (m : ℕ). make (take m (drop from l))) k) w)
-    ∙ part-over room bytes at code size (omega arith)
+-- two stores, and a writer's bytes in just their part of the room behind them, which are made of n elements of a list: a part
+module _ (make : List ℕ → List ℕ) (room l : List ℕ) (at code size from n : ℕ) (e : length (make (take n (drop from l))) ≡ size)
+    (h : at + (2 + size) ≤ length room) where
+  abbrev stored : List ℕ
+  stored = set (set room at code) (at + 1) size
+
+  abbrev long : ℕ
+  long = at + 2 + size - (at + 2)
+
+  abbrev made : List ℕ
+  made = make (take n (drop from l))
+
+  pub part-put : {part : List ℕ} {r : Written} → Wrote (writeSlice (make (take (from + n - from) (drop from l))) (take long (drop (at + 2) stored)) 0)
+      (take long (drop (at + 2) stored)) part 0 r
+      → take (at + 2) stored ++ (part ++ drop long (drop (at + 2) stored)) ≡ over room at (code ∷ size ∷ made)
+  part-put w =
+      let k : from + n - from ≡ n = omega arith in
+      let s : length stored ≡ length room = simp length-set in
+      put-part made stored (at + 2) long (omega arith) (omega arith) (same-bytes (ap (λ (m : ℕ). make (take m (drop from l))) k) w)
+      ∙ part-over room made at code size (omega arith)
+
+  pub part-keeps : {part : List ℕ} {r : Written} → Wrote (writeSlice (make (take (from + n - from) (drop from l))) (take long (drop (at + 2) stored)) 0)
+      (take long (drop (at + 2) stored)) part 0 r
+      → length (take (at + 2) stored ++ (part ++ drop long (drop (at + 2) stored))) ≡ length room
+  part-keeps w = ap length (part-put w) ∙ length-over room at (code ∷ size ∷ made) (omega arith)

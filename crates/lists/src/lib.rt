@@ -146,7 +146,11 @@ fn put_u32_part(room: &mut [u8], at: usize, code: u8, numbers: &[u32], from: usi
 {
     room[at] = code;
     room[at + 1] = (4 * n) as u8;
-    encoder::write_u32s(room, at + 2, &numbers[from..from + n]);
+    encoder::write_u32s(
+        &mut room[at + 2..at + 2 + 4 * n],
+        0,
+        &numbers[from..from + n],
+    );
 }
 
 // Writes one part: the code, the length, the `n` numbers from `from` on.
@@ -157,5 +161,9 @@ fn put_u16_part(room: &mut [u8], at: usize, code: u8, numbers: &[u16], from: usi
 {
     room[at] = code;
     room[at + 1] = (2 * n) as u8;
-    encoder::write_u16s(room, at + 2, &numbers[from..from + n]);
+    encoder::write_u16s(
+        &mut room[at + 2..at + 2 + 2 * n],
+        0,
+        &numbers[from..from + n],
+    );
 }

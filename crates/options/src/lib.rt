@@ -106,12 +106,13 @@ pub(crate) fn put_parts(room: &mut [u8], place: usize, code: u8, value: &[u8])
     }
 }
 
-// Writes one part: the code, the length, the `n` bytes of `value` from `from` on.
+// Writes one part: the code, the length, the `n` bytes of `value` from `from` on, into just their part of the room, so that nothing is left
+// to be tested.
 pub(crate) fn put_part(room: &mut [u8], at: usize, code: u8, value: &[u8], from: usize, n: usize)
     requires { ⌜ (at + (2 + n) ≤ length (now room)) × (from + n ≤ length (now value)) × (n ≤ mostPart) ⌝ }
     ensures { λ _. ⌜ now (room .exit) ≡ over (now (room .entry)) at (code ∷ n ∷ take n (drop from (now (value .entry)))) ⌝ }
 {
     room[at] = code;
     room[at + 1] = n as u8;
-    encoder::write_slice(room, at + 2, &value[from..from + n]);
+    encoder::write_slice(&mut room[at + 2..at + 2 + n], 0, &value[from..from + n]);
 }

@@ -95,11 +95,11 @@ fn judge_row(
     if len > MOST_VALUE {
         return Written::Refused(7);
     }
-    let size = size_of(len);
-    if size > room.len() - at {
+    let to = at + size_of(len);
+    if to > room.len() {
         return Written::Refused(8);
     }
-    Written::To(at + size)
+    Written::To(to)
 }
 
 // How many bytes a value of so many takes. One part needs no division.

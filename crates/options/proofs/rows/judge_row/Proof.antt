@@ -43,5 +43,4 @@ judge-row-spec =
     (λ c κs. search needs)
     (λ c. search needs)
     returns-6
-    (λ c. search needs)
     returns-7)
