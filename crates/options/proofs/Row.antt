@@ -17,10 +17,11 @@ use Rattle.rfc.specs.Writing.{encode, sizeInParts, answerTo, writeBytes}
 use Rattle.rfc.proofs.Numbers.{Clear, here, later, done, next, pad-code, end-code, a-code, much, not-much, not-too-much}
 use Rattle.rfc.proofs.Alike.{none, both, passes-left, as-bytes}
 use Rattle.rfc.proofs.Writing.{Alike, length-encode, encode-empty, encode-once, checks-refuse, clear-8, clear-given, given-clear, given-to, given-fits, given-left}
-use Rattle.encoder.specs.Written.{Wrote}
-use Rattle.encoder.specs.declared.Written.the-variants.{To}
+use Rattle.encoder.specs.Written.{says, Wrote}
+use Rattle.encoder.specs.declared.Written.{Written}
+use Rattle.encoder.specs.declared.Written.the-variants as written
 use Rattle.encoder.proofs.Answers.{writes}
-use Rattle.options.specs.Rows.{outside, notCode, writeRow}
+use Rattle.options.specs.Rows.{outside, notCode, writeRow, Fitting}
 
 -- 4
 stands-outside : (start len : ℕ) (values : List ℕ) → length values < start + len → outside start len values ≡ true
@@ -102,20 +103,21 @@ module _ (code start len : ℕ) (values room : List ℕ) (place : ℕ) where
           (later (stands-inside start len values a) (later good (here (much value (omega (arith, length-value))))))
 
       -- else only the room's end can refuse it
-      module _ (c : len ≤ mostValue) {size : ℕ} (s : size ≡ sizeInParts mostPart len) where
+      module _ (c : len ≤ mostValue) where
         clear : Clear (writeRow code start len values .checks)
         unfolding writeRow
         clear = next (stands-inside start len values a) (next good (next (not-much value (omega (arith, length-value))) done))
 
-        takes : length (writeRow code start len values .bytes) ≡ size
+        takes : length (writeRow code start len values .bytes) ≡ sizeInParts mostPart len
         unfolding writeRow
-        takes = length-row ∙ sym s
+        takes = length-row
 
-        pub row-8 : length room < place + size → answerTo (writeRow code start len values) room place ≡ refused 8
-        row-8 h = clear-8 _ room place clear (omega (arith, takes))
-
-        pub row-given : place + size ≤ length room → answerTo (writeRow code start len values) room place ≡ given (place + size)
-        row-given h = clear-given _ room place clear (omega (arith, takes)) ∙ ap (λ (k : ℕ). given (place + k)) takes
+        pub row-ends : (r : Written) (to : ℕ) → Fitting room to r → to ≡ place + sizeInParts mostPart len
+            → says r ≡ answerTo (writeRow code start len values) room place
+        row-ends (written.To end) to f e =
+            ap (λ (k : ℕ). given k) (omega (arith, f .0, takes)) ∙ sym (clear-given _ room place clear (omega (arith, f .1, takes)))
+        row-ends (written.Refused number) to f e =
+            ap (λ (k : ℕ). refused k) (f .0) ∙ sym (clear-8 _ room place clear (omega (arith, f .1, takes)))
 
   -- a row that is not refused
   module _ {to : ℕ} (e : answerTo (writeRow code start len values) room place ≡ given to) where
@@ -145,32 +147,30 @@ module _ (code start len : ℕ) (values room : List ℕ) (place : ℕ) where
     passed-takes = omega (arith, passed-fits, length-row passed-inside)
 
     -- and it is written where its bytes are put
-    pub passed-put : {room′ : List ℕ} {size : ℕ} → size ≡ sizeInParts mostPart len
-        → room′ ≡ over room place (encode mostPart code value) → Wrote (writeRow code start len values) room room′ place (To (place + size))
-    unfolding writeRow
-    passed-put s p =
-        writes _ room place _ _ (e ∙ ap given (given-to _ room place to e ∙ ap (λ (n : ℕ). place + n) (length-row passed-inside ∙ sym s)))
-        (given-left _ room place to e ∙ sym p)
+    module _ {end : ℕ} (ends : end ≡ place + sizeInParts mostPart len) where
+      pub passed-put : {room′ : List ℕ} → room′ ≡ over room place (encode mostPart code value)
+          → Wrote (writeRow code start len values) room room′ place (written.To end)
+      unfolding writeRow
+      passed-put p =
+          writes _ room place _ _ (e ∙ ap given (given-to _ room place to e ∙ omega (arith, length-row passed-inside)))
+          (given-left _ room place to e ∙ sym p)
 
-    -- by the two ends of its value; as one part; and with none
-    pub passed-parts : {room′ : List ℕ} {size : ℕ} → size ≡ sizeInParts mostPart len
-        → room′ ≡ over room place (encode mostPart code (take (start + len - start) (drop start values)))
-        → Wrote (writeRow code start len values) room room′ place (To (place + size))
-    passed-parts s p =
-        let n : start + len - start ≡ len = omega arith in
-        passed-put s (p ∙ ap (λ (k : ℕ). over room place (encode mostPart code (take k (drop start values)))) n)
+      -- by the two ends of its value; as one part; and with none
+      pub passed-parts : {room′ : List ℕ} → room′ ≡ over room place (encode mostPart code (take (start + len - start) (drop start values)))
+          → Wrote (writeRow code start len values) room room′ place (written.To end)
+      passed-parts p =
+          let n : start + len - start ≡ len = omega arith in
+          passed-put (p ∙ ap (λ (k : ℕ). over room place (encode mostPart code (take k (drop start values)))) n)
 
-    pub passed-part : {room′ : List ℕ} {size : ℕ} → 0 < len → len ≤ mostPart → size ≡ sizeInParts mostPart len
-        → room′ ≡ over room place (code ∷ len ∷ value) → Wrote (writeRow code start len values) room room′ place (To (place + size))
-    passed-part h g s p =
-        let l = length-value passed-inside in
-        let once : code ∷ len ∷ value ≡ encode mostPart code value =
-        ap (λ (n : ℕ). code ∷ n ∷ value) (sym l) ∙ sym (encode-once mostPart code value (omega (arith, l)) (omega (arith, l))) in
-        passed-put s (p ∙ ap (over room place) once)
+      pub passed-part : {room′ : List ℕ} → 0 < len → len ≤ mostPart → room′ ≡ over room place (code ∷ len ∷ value)
+          → Wrote (writeRow code start len values) room room′ place (written.To end)
+      passed-part h g p =
+          let l = length-value passed-inside in
+          let once : code ∷ len ∷ value ≡ encode mostPart code value =
+          ap (λ (n : ℕ). code ∷ n ∷ value) (sym l) ∙ sym (encode-once mostPart code value (omega (arith, l)) (omega (arith, l))) in
+          passed-put (p ∙ ap (over room place) once)
 
-    pub passed-none : {size : ℕ} → len ≤ 0 → size ≡ sizeInParts mostPart len
-        → Wrote (writeRow code start len values) room room place (To (place + size))
-    passed-none h s =
-        let l = length-value passed-inside in
-        let none : encode mostPart code value ≡ [] = encode-empty mostPart (lit< tt) code value (omega (arith, l)) in
-        passed-put s (sym (ap (over room place) none ∙ over-nil room place))
+      pub passed-none : len ≡ 0 → Wrote (writeRow code start len values) room room place (written.To end)
+      passed-none h =
+          let none : encode mostPart code value ≡ [] = encode-empty mostPart (lit< tt) code value (length-value passed-inside ∙ h) in
+          passed-put (sym (ap (over room place) none ∙ over-nil room place))

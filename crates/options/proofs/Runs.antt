@@ -11,8 +11,9 @@ use lib.Seq.{drop-cons}
 use Rattle.rfc.specs.Numbers.{Answer, given, refused, needs, mostBytes}
 use Rattle.rfc.specs.Writing.{Write, answerTo, roomAfter}
 use Rattle.rfc.proofs.Numbers.{here, later, refuses, done, next, clears, long, not-long, past, not-past}
-use Rattle.rfc.proofs.Writing.{given-to, given-fits, given-keeps, never-needs}
-use Rattle.encoder.specs.Written.{Wrote}
+use Rattle.rfc.proofs.Writing.{given-to, given-fits, given-keeps, never-needs, same-answer}
+use Rattle.encoder.specs.Written.{says, Wrote}
+use Rattle.encoder.specs.declared.Written.{Written}
 use Rattle.encoder.specs.declared.Written.the-variants as written
 use Rattle.options.specs.Rows.{writeRow, Outcome, all, stuck, orStuck, rowsFrom, writeRows, answerOf, roomOf, WroteRows, InRoom, AllPass}
 use Rattle.options.specs.declared.rows.RowsWritten.{RowsWritten}
@@ -74,11 +75,6 @@ pub record Judged (rows values room₀ : List ℕ) (place at k index : ℕ) : Ty
   pub would : List ℕ
   pub reached : Reached rows values room₀ place would at k index
 
--- or with a number of rows that nobody counts
-pub record Uncounted (rows values room₀ : List ℕ) (place : ℕ) (room : List ℕ) (at k : ℕ) : Type 0 where
-  pub index : ℕ
-  pub reached : Reached rows values room₀ place room at k index
-
 pub reached-none : {rows values room : List ℕ} {place : ℕ} → place ≤ length room → Reached rows values room place room place 0 0
 reached-none h = record { same = refl; threes = refl; inside = omega arith; keeps = refl; within = h }
 
@@ -124,21 +120,31 @@ module _ {rows values room₀ room : List ℕ} {place at k index : ℕ} (reached
         go (refused number) e = absurd (let f = reached-stuck e ∙ passes in let z : _≡_ {A = ℕ} 0 1 = cc in omega arith)
         go (needs n) e = absurd (never-needs row room at n e)
 
--- the same by what a write answers and leaves
-pub uncounted-more : {rows values room₀ room room′ : List ℕ} {place at k to : ℕ} → Uncounted rows values room₀ place room at k
-    → k + 3 ≤ length rows → Wrote (rowAt rows k values) room room′ at (written.To to)
-    → Uncounted rows values room₀ place room′ to (k + 3)
-uncounted-more {rows} {values} {room₀} {room} {room′} {place} {at} {k} {to} u h w =
-    record {
-      index = u .index + 1;
-      reached =
-          subst (λ (r : List ℕ). Reached rows values room₀ place r to (k + 3) (u .index + 1)) (sym (w .left))
-          (reached-more (u .reached) h (sym (w .told)));
-    }
+-- where nothing is written yet, by what a write would answer
+module _ {rows values room₀ : List ℕ} {place at k index : ℕ} (judged : Judged rows values room₀ place at k index) where
+  pub judged-end : length rows - k < 3 → To index at ≡ answerOf (rowsFrom 0 rows values room₀ place)
+  judged-end h = ap answerOf (reached-all (judged .reached) h)
 
-pub uncounted-all : {rows values room₀ room : List ℕ} {place at k : ℕ} → Uncounted rows values room₀ place room at k → length rows - k < 3
-    → room ≡ roomOf (rowsFrom 0 rows values room₀ place) room₀
-uncounted-all {room₀ = room₀} u h = ap (λ (o : Outcome). roomOf o room₀) (reached-all (u .reached) h)
+  module _ (h : k + 3 ≤ length rows) {r : Written} (says-so : says r ≡ answerTo (rowAt rows k values) room₀ at) where
+    answers : {q : Written} → r ≡ q → answerTo (rowAt rows k values) (judged .would) at ≡ says q
+    answers e = same-answer _ _ _ room₀ (judged .reached .keeps) ∙ sym says-so ∙ ap says e
+
+    pub judged-more : {to : ℕ} → r ≡ written.To to → Judged rows values room₀ place to (k + 3) (index + 1)
+    judged-more e = record { would = _; reached = reached-more (judged .reached) h (answers e) }
+
+    pub judged-at : {number : ℕ} → r ≡ written.Refused number → Refused index number ≡ answerOf (rowsFrom 0 rows values room₀ place)
+    judged-at e = ap answerOf (reached-stuck (judged .reached) h (answers e))
+
+-- the same by what a write answers and leaves
+pub written-more : {rows values room₀ room room′ : List ℕ} {place at k index to : ℕ} → Reached rows values room₀ place room at k index
+    → k + 3 ≤ length rows → Wrote (rowAt rows k values) room room′ at (written.To to)
+    → Reached rows values room₀ place room′ to (k + 3) (index + 1)
+written-more {rows} {values} {room₀} {room} {room′} {place} {at} {k} {index} {to} reached h w =
+    subst (λ (r : List ℕ). Reached rows values room₀ place r to (k + 3) (index + 1)) (sym (w .left)) (reached-more reached h (sym (w .told)))
+
+pub written-all : {rows values room₀ room : List ℕ} {place at k index : ℕ} → Reached rows values room₀ place room at k index
+    → length rows - k < 3 → room ≡ roomOf (rowsFrom 0 rows values room₀ place) room₀
+written-all {room₀ = room₀} reached h = ap (λ (o : Outcome). roomOf o room₀) (reached-all reached h)
 
 -- what was judged, back from its answer
 judged-all : (o : Outcome) {count to : ℕ} → To count to ≡ answerOf o → (room : List ℕ) × (o ≡ all count room to)

@@ -1,7 +1,7 @@
 -- Options written in one call, all of them or none, each from a row of three numbers: its code, and where its value stands in the lent
 -- values and how long it is.
 -- Assumes nothing.
-use Prim.Native.Nat.{ℕ, suc, _+_, _≤_}
+use Prim.Native.Nat.{ℕ, suc, _+_, _≤_, _<_}
 use mathlib.Core.Path.{_≡_}
 use mathlib.Core.Bool.{Bool, _||_}
 use mathlib.Core.List.{List, [], _∷_}
@@ -9,6 +9,8 @@ use lib.Dec.{ltb}
 use lib.ListN.{length, take, drop}
 use Rattle.rfc.specs.Numbers.{Answer, given, refused, needs, check, checked, mostBytes, mostPart, tooLong, pastEnd, noCode, tooMuch}
 use Rattle.rfc.specs.Writing.{Write, encode, answerTo, roomAfter}
+use Rattle.encoder.specs.declared.Written.{Written}
+use Rattle.encoder.specs.declared.Written.the-variants as written
 use Rattle.options.specs.declared.rows.RowsWritten.{RowsWritten}
 use Rattle.options.specs.declared.rows.RowsWritten.the-variants.{To, Refused}
 
@@ -77,6 +79,11 @@ pub record WroteRows (rows values room room′ : List ℕ) (place : ℕ) (r : Ro
 pub record InRoom (room : List ℕ) (place : ℕ) : Type 0 where
   pub short : length room ≤ mostBytes
   pub within : place ≤ length room
+
+-- 8, or the place behind a write that ends at `to`
+abbrev pub Fitting : List ℕ → ℕ → Written → Type 0
+Fitting room to (written.To end) = (end ≡ to) × (to ≤ length room)
+Fitting room to (written.Refused number) = (number ≡ 8) × (length room < to)
 
 -- the write of a row there is not refused
 pub record Passes (code start len : ℕ) (values room : List ℕ) (place : ℕ) : Type 0 where

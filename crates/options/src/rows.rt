@@ -1,11 +1,9 @@
 // Options written in one call from lent rows, all of them or none: one pass over the rows judges them, and a second one writes them.
 ghost use mathlib.Core.Path.{_≡_};
-ghost use Prim.Native.Nat.{_≤_};
-ghost use Rattle.rfc.specs.Numbers.{mostValue, mostPart};
-ghost use Rattle.rfc.specs.Writing.{sizeInParts, answerTo};
+ghost use Rattle.rfc.specs.Writing.{answerTo};
 ghost use Rattle.encoder.specs.Written.{says, Wrote};
 ghost use Rattle.encoder.specs.declared.Written.the-variants.{To};
-ghost use Rattle.options.specs.Rows.{writeRow, rowsFrom, answerOf, roomOf, WroteRows, InRoom, Passes, AllPass};
+ghost use Rattle.options.specs.Rows.{writeRow, rowsFrom, answerOf, roomOf, WroteRows, InRoom, Fitting, Passes, AllPass};
 use encoder::Written;
 use limits::MOST_BYTES;
 use limits::MOST_PART;
@@ -49,10 +47,11 @@ fn judge(room: &[u8], place: usize, rows: &[usize], values: &[u8]) -> RowsWritte
     requires { ⌜ InRoom (now room) place ⌝ }
     ensures { λ r. ⌜ r ≡ answerOf (rowsFrom 0 (now (rows .entry)) (now (values .entry)) (now (room .entry)) place) ⌝ }
 {
+    let count = rows.len() / 3;
     let mut at = place;
     let mut k: usize = 0;
     let mut row: usize = 0;
-    while rows.len() - k >= 3 {
+    while row < count {
         match judge_row(room, at, rows[k], rows[k + 1], rows[k + 2], values) {
             Written::To(to) => {
                 at = to;
@@ -92,28 +91,29 @@ fn judge_row(
     if code > 254 {
         return Written::Refused(6);
     }
-    if len > MOST_VALUE {
-        return Written::Refused(7);
+    if len > MOST_PART {
+        if len > MOST_VALUE {
+            return Written::Refused(7);
+        }
+        return fitting(
+            room,
+            at + parts::size_in_parts(len as u16, MOST_PART as u16),
+        );
     }
-    let to = at + size_of(len);
+    if len == 0 {
+        return Written::To(at);
+    }
+    fitting(room, at + len + 2)
+}
+
+// What a write answers that would end at `to`, and that only the room's end can refuse.
+fn fitting(room: &[u8], to: usize) -> Written
+    ensures { λ r. ⌜ Fitting (now (room .entry)) to r ⌝ }
+{
     if to > room.len() {
         return Written::Refused(8);
     }
     Written::To(to)
-}
-
-// How many bytes a value of so many takes. One part needs no division.
-fn size_of(len: usize) -> usize
-    requires { ⌜ len ≤ mostValue ⌝ }
-    ensures { λ r. ⌜ r ≡ sizeInParts mostPart len ⌝ }
-{
-    if len > MOST_PART {
-        return parts::size_in_parts(len as u16, MOST_PART as u16);
-    }
-    if len == 0 {
-        return 0;
-    }
-    len + 2
 }
 
 // Writes the rows, none of which is refused.
@@ -122,11 +122,14 @@ fn put_rows(room: &mut [u8], place: usize, rows: &[usize], values: &[u8])
     ensures { λ _. ⌜ now (room .exit)
         ≡ roomOf (rowsFrom 0 (now (rows .entry)) (now (values .entry)) (now (room .entry)) place) (now (room .entry)) ⌝ }
 {
+    let count = rows.len() / 3;
     let mut at = place;
     let mut k: usize = 0;
-    while rows.len() - k >= 3 {
+    let mut row: usize = 0;
+    while row < count {
         at = put_row(room, at, rows[k], rows[k + 1], rows[k + 2], values);
         k += 3;
+        row += 1;
     }
 }
 
@@ -142,13 +145,13 @@ fn put_row(
     requires { ⌜ Passes code start len (now values) (now room) at ⌝ }
     ensures { λ r. ⌜ Wrote (writeRow code start len (now (values .entry))) (now (room .entry)) (now (room .exit)) at (To r) ⌝ }
 {
-    let to = at + size_of(len);
     if len > MOST_PART {
         crate::put_parts(room, at, code as u8, &values[start..start + len]);
-        return to;
+        return at + parts::size_in_parts(len as u16, MOST_PART as u16);
     }
-    if len > 0 {
-        crate::put_part(room, at, code as u8, values, start, len);
+    if len == 0 {
+        return at;
     }
-    to
+    crate::put_part(room, at, code as u8, values, start, len);
+    at + len + 2
 }

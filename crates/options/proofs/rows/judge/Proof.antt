@@ -1,23 +1,19 @@
 -- `judge` meets its contract: from where the loop stands, the rows that are left give the same outcome (`Reached`), in the room as it
 -- would be written.
 -- Assumes nothing.
-use mathlib.Core.Path.{_≡_, sym, ap, _∙_}
 use Prim.Native.Nat.{_-_}
 use native.Mathlib.Omega.{arith}
 use borrow.Author.Needs.{needs}
 use lib.ListN.{length}
-use Rattle.rfc.proofs.Writing.{same-answer}
-use Rattle.encoder.specs.Written.{says}
-use Rattle.options.specs.Rows.{answerOf}
-use Rattle.options.proofs.Runs.{Judged, reached-none, reached-all, reached-more, reached-stuck}
+use Rattle.options.proofs.Runs.{Judged, reached-none, judged-more, judged-at, judged-end}
 use Rattle.options.proofs.rows.judge.Statement.{statement}
 use Rattle.options.proofs.rows.judge.Tie as tie
 
 abbrev Inv-loop : tie.InvT-loop
-Inv-loop room place rows values at₀ k₀ row₀ at k row = Judged rows values room place at k row
+Inv-loop room place rows values count at₀ k₀ row₀ at k row = Judged rows values room place at k row
 
 abbrev μ-loop : tie.MeasureT-loop
-μ-loop room place rows values at₀ k₀ row₀ at k row = length rows - k
+μ-loop room place rows values count at₀ k₀ row₀ at k row = length rows - k
 
 loop-holds : tie.Need-loop-holds Inv-loop μ-loop
 loop-holds c = record { would = _; reached = reached-none (c .before .before .before .pre .within) }
@@ -31,19 +27,17 @@ judge-row-requires c κs =
 loop-again : tie.Need-loop-again Inv-loop μ-loop
 loop-again c =
     let called = c .before .before .before in
-    let reached = called .before .before .before .before .before .loop .inv .reached in
-    let answers = same-answer _ _ _ _ (reached .keeps) ∙ sym (called .judge-row .ensures) ∙ ap says (c .before .to .given .1) in
-    record { would = _; reached = reached-more reached (omega arith) answers }
+    let judged = called .before .before .before .before .before .loop .inv in
+    judged-more judged (omega (arith, judged .reached .threes)) (called .judge-row .ensures) (c .before .to .given .1)
 
 returns : tie.Need-returns Inv-loop μ-loop
 returns c =
     let called = c .before .before .before in
-    let reached = called .before .before .before .before .before .loop .inv .reached in
-    let answers = same-answer _ _ _ _ (reached .keeps) ∙ sym (called .judge-row .ensures) ∙ ap says (c .before .number .given .1) in
-    ap answerOf (reached-stuck reached (omega arith) answers)
+    let judged = called .before .before .before .before .before .loop .inv in
+    judged-at judged (omega (arith, judged .reached .threes)) (called .judge-row .ensures) (c .before .number .given .1)
 
 returns-2 : tie.Need-returns-2 Inv-loop μ-loop
-returns-2 c = ap answerOf (reached-all (c .before .loop .inv .reached) (c .loop-test .left))
+returns-2 c = let judged = c .before .loop .inv in judged-end judged (omega (arith, judged .reached .threes))
 
 pub judge-spec : {M : Type 1} → statement M
 judge-spec =
@@ -52,7 +46,6 @@ judge-spec =
     Inv-loop
     μ-loop
     loop-holds
-    (λ c. search needs)
     (λ c. search needs)
     (λ c. search needs)
     (λ c. search needs)
