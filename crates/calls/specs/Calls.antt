@@ -125,14 +125,15 @@ TellAll area (a ∷ b ∷ []) (o ∷ os) = ⊥
 TellAll area (a ∷ b ∷ c ∷ []) (o ∷ os) = ⊥
 TellAll area (code ∷ parts ∷ len ∷ place ∷ table) (o ∷ os) = Tells area o code parts len place × TellAll area table os
 
--- a call of `sindovaleph_list` over a whole area, from a table to a table′: with a row more than there are options in `listing` of the
--- area, whatever there is to join in, it fills a row for each, and tells the stop at which that listing ends
+-- what a call of `sindovaleph_list` over a whole area has told and filled: a row for each option of `listing`, in their order, and the stop
+-- at which that listing ends. (65,535 bytes to join in are room for whatever an area has)
 pub record RowsOf (area table′ : List ℕ) (r : Listed) : Type 0 where
   pub refused : r .refused ≡ 0
   pub count : r .rows ≡ length (listing area mostBytes .options)
   pub rows : TellAll area table′ (listing area mostBytes .options)
   pub last : (s : walk.Stop) × (r .stop ≡ boundary.stopNumber s) × (listing area mostBytes .ending ≡ given (walk.stop s (r .place)))
 
+-- so it does, where the table has a row more than there are options
 abbrev pub RowsAreListed : Type 0
 RowsAreListed =
     (area table table′ : List ℕ) (r : Listed)
@@ -141,21 +142,24 @@ RowsAreListed =
     → Lists found area 0 table table′ r
     → RowsOf area table′ r
 
--- so good rows, written by `sindovaleph_write_list` and closed by `sindovaleph_close`, are the list's bytes, and `sindovaleph_list` lists
+-- and good rows, written by `sindovaleph_write_list` and closed by `sindovaleph_close`, are the list's bytes, and `sindovaleph_list` lists
 -- them back, whatever stands behind them
-pub record BackByRows (rows values room room₁ room′ behind table table′ : List ℕ) (place : ℕ) (w : WrittenRows) (c : boundary-written.Written)
+pub record BackByRows (options : List Opt) (room room′ behind table′ : List ℕ) (place : ℕ) (w : WrittenRows) (c : boundary-written.Written)
     (r : Listed) : Type 0 where
-  pub all-written : (w .refused ≡ 0) × (w .rows ≡ length (named rows values))
-  pub closed : c ≡ record { refused = 0; place = place + length (encodeAll (named rows values)) }
-  pub left : room′ ≡ over room place (encodeAll (named rows values))
+  -- no row is refused, and each is written
+  pub all-written : (w .refused ≡ 0) × (w .rows ≡ length options)
+  -- the list's bytes stand at the place, and nothing else changed
+  pub closed : c ≡ record { refused = 0; place = place + length (encodeAll options) }
+  pub left : room′ ≡ over room place (encodeAll options)
+  -- those bytes are listed up to their End, a row for each option
   pub listed : r
       ≡ record {
         refused = 0;
         stop = boundary.stopNumber walk.end;
-        rows = length (named rows values);
-        place = length (encodeAll (named rows values));
+        rows = length options;
+        place = length (encodeAll options);
       }
-  pub told : TellAll (encodeAll (named rows values) ++ behind) table′ (named rows values)
+  pub told : TellAll (encodeAll options ++ behind) table′ options
 
 abbrev pub RowsRoundTrip : Type 0
 RowsRoundTrip =
@@ -169,4 +173,4 @@ RowsRoundTrip =
     → WritesList rows values room room₁ place w
     → boundary.Wrote (close room₁ (w .place)) room₁ room′ (w .place) c
     → Lists found (encodeAll (named rows values) ++ behind) 0 table table′ r
-    → BackByRows rows values room room₁ room′ behind table table′ place w c r
+    → BackByRows (named rows values) room room′ behind table′ place w c r
