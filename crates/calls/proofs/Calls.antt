@@ -5,7 +5,6 @@ use Prim.Native.Nat.{ℕ, _+_, _≤_}
 use native.Mathlib.Omega.{arith}
 use mathlib.Core.List.{List, [], _∷_, _++_, append-nil}
 use lib.ListN.{length, drop, length-append, length-drop}
-use Rattle.facts.specs.Over.{over}
 use Rattle.facts.proofs.Over.{from-over}
 use Rattle.rfc.specs.Numbers.{Answer, given, refused, needs, mostBytes, mostValue}
 use Rattle.rfc.specs.Walk as walk
@@ -17,8 +16,7 @@ use Rattle.rfc.proofs.Walk.{length-joined}
 use Rattle.encoder.specs.Written.{Wrote}
 use Rattle.encoder.specs.declared.Written.{Written}
 use Rattle.encoder.specs.declared.Written.the-variants as written
-use Rattle.borrowed.specs.Walked.{stopOf, says, Stepped}
-use Rattle.borrowed.specs.declared.answer.Step.{Step}
+use Rattle.borrowed.specs.Walked.{stopOf, Stepped}
 use Rattle.borrowed.specs.declared.answer.Step.the-variants.{Stopped, Found, Refused, Needs}
 use Rattle.borrowed.specs.declared.answer.Stop.{Stop}
 use Rattle.borrowed.specs.declared.answer.Stop.the-variants.{Out, End, CutLength, CutValue, CutContinuation}

@@ -1,20 +1,19 @@
 -- Demand 3 over calls of all options at once.
 -- Assumes nothing.
-use mathlib.Core.Path.{_≡_, refl, sym, ap, _∙_, subst}
-use Prim.Native.Nat.{ℕ, _+_, _*_, _/_, _≤_, _<_}
+use mathlib.Core.Path.{_≡_, sym, ap, _∙_, subst}
+use Prim.Native.Nat.{ℕ, _+_, _/_, _≤_}
 use native.Mathlib.Omega.{arith}
-use mathlib.Core.List.{List, [], _++_}
+use mathlib.Core.List.{List, _++_}
 use lib.Dec.{lit≤}
 use lib.ListN.{length, drop}
-use Rattle.facts.specs.Over.{over}
 use Rattle.facts.proofs.Over.{from-over}
 use Rattle.rfc.specs.Numbers.{Answer, given, mostBytes}
 use Rattle.rfc.specs.Walk as walk
 use Rattle.rfc.specs.Writing.{answerTo, roomAfter, close}
 use Rattle.rfc.specs.Lists as rfc
-use Rattle.rfc.specs.Lists.{Opt, encodeAll, writeAll, listing}
+use Rattle.rfc.specs.Lists.{Opt, encodeAll, listing}
 use Rattle.rfc.proofs.Lists.{writes-all, walks-all, list-whole}
-use Rattle.options.specs.Rows.{Outcome, writeRows, roomOf}
+use Rattle.options.specs.Rows.{Outcome, roomOf}
 use Rattle.options.proofs.Runs.{rows-decide}
 use Rattle.crossing.specs.Carried as boundary
 use Rattle.sindovaleph_rows.specs.Writing.{writtenRows}

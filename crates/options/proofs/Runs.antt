@@ -2,7 +2,7 @@
 -- Both passes go the same way: the one that judges writes nothing, and of a room only its length decides.
 -- Assumes nothing.
 use mathlib.Core.Path.{_≡_, refl, sym, ap, _∙_, subst}
-use Prim.Native.Nat.{ℕ, suc, zero, _+_, _-_, _*_, _≤_, _<_}
+use Prim.Native.Nat.{ℕ, suc, _+_, _-_, _*_, _≤_, _<_}
 use mathlib.Core.List.{List, [], _∷_}
 use native.Mathlib.Numerals.{add-one}
 use native.Mathlib.Omega.{arith}
@@ -15,8 +15,7 @@ use Rattle.rfc.proofs.Writing.{given-to, given-fits, given-keeps, never-needs, 
 use Rattle.encoder.specs.Written.{says, Wrote}
 use Rattle.encoder.specs.declared.Written.{Written}
 use Rattle.encoder.specs.declared.Written.the-variants as written
-use Rattle.options.specs.Rows.{writeRow, Outcome, all, stuck, orStuck, rowsFrom, writeRows, answerOf, roomOf, WroteRows, InRoom, AllPass}
-use Rattle.options.specs.declared.rows.RowsWritten.{RowsWritten}
+use Rattle.options.specs.Rows.{writeRow, Outcome, all, stuck, orStuck, rowsFrom, writeRows, answerOf, roomOf, WroteRows, AllPass}
 use Rattle.options.specs.declared.rows.RowsWritten.the-variants.{To, Refused}
 
 -- the next three numbers

@@ -1,8 +1,10 @@
 -- `size_in_parts` meets its contract: by 0 nothing is divided, and the sum stays small.
 -- Assumes nothing.
-use Prim.Native.Nat.{_+_, _-_, _/_, _≤_}
+use mathlib.Core.Path.{_≡_}
+use Prim.Native.Nat.{ℕ, _+_, _-_, _/_, _≤_}
 use native.Mathlib.Omega.{arith}
 use native.Mathlib.Nat.{div-zero, div-le-self}
+use Rattle.rfc.specs.Writing.{sizeInParts}
 use borrow.Author.Needs.{needs}
 use Rattle.parts.proofs.size_in_parts.Statement.{statement}
 use Rattle.parts.proofs.size_in_parts.Tie as tie
@@ -11,8 +13,12 @@ use Rattle.parts.proofs.size_in_parts.Tie as tie
 few : (c : tie.Start) → (c .args .len + (c .args .most - 1)) / c .args .most ≤ c .args .len + (c .args .most - 1)
 few c = div-le-self (c .args .len + (c .args .most - 1)) (c .args .most)
 
+-- in parts of no bytes there is none
+whole : (len most : ℕ) → most ≡ 0 → len ≡ sizeInParts most len
+whole len most e = rw (e, div-zero) (omega arith)
+
 returns : tie.Need-returns
-returns c = rw (c .if1 .taken, div-zero) (omega arith)
+returns c = whole _ _ (c .if1 .taken)
 
 pub size-in-parts-spec : {M : Type 1} → statement M
 size-in-parts-spec =

@@ -1,6 +1,6 @@
 -- `write_rows` meets its contract: a law of `writeRows` for each return.
 -- Assumes nothing.
-use mathlib.Core.Path.{_≡_, sym, _∙_}
+use mathlib.Core.Path.{sym, _∙_}
 use Rattle.options.proofs.Runs.{rows-2, rows-4, rows-stuck, rows-pass, rows-all}
 use borrow.Author.Needs.{needs}
 use Rattle.options.proofs.rows.write_rows.Statement.{statement}
