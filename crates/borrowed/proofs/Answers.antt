@@ -10,7 +10,7 @@ use Rattle.facts.specs.Over.{over}
 use Rattle.facts.proofs.Over.{length-over, shown-over}
 use Rattle.rfc.specs.Numbers.{Answer, given, refused, needs, mostBytes}
 use Rattle.rfc.specs.Walk as rfc
-use Rattle.rfc.specs.Walk.{run, further, joined, walk, roomFor, look, step, joinAfter, placeAfter, stop, option}
+use Rattle.rfc.specs.Walk.{run, further, joined, walk, roomFor, look, joinAfter, placeAfter, stop, option}
 use Rattle.rfc.proofs.Walk.{step-found, step-refused, step-needs, stop-moves, option-moves, refused-stays, needs-stays}
 use Rattle.rfc.proofs.Walk.{joined-cut, joined-run, stop-answered, stop-keeps, refused-keeps, needs-keeps}
 use Rattle.rfc.proofs.Walk.{one-answered, one-keeps, many-answered, many-joined, many-needs, look-walks, step-alike}
