@@ -53,6 +53,11 @@ module _ {c d n m at to : ℕ} {v w : List ℕ} (e : _≡_ {A = Answer walk.Foun
   same-value : v ≡ w
   same-value = cc
 
+-- an option is no stop
+option-stop : {A : Type 0} {s : walk.Stop} {c n at to : ℕ} {v : List ℕ}
+    → _≡_ {A = Answer walk.Found} (given (walk.option c v n at)) (given (walk.stop s to)) → A
+option-stop e = absurd (let z : _≡_ {A = ℕ} 0 1 = cc in omega arith)
+
 -- The walk, over an area where the list's bytes begin at a place
 module _ (area rest : List ℕ) (short : length area ≤ mostBytes) where
   -- the calls have come to a place and a join buffer, with these options of the list left
@@ -67,10 +72,6 @@ module _ (area rest : List ℕ) (short : length area ≤ mostBytes) where
 
   -- a call that finds an option there finds the list's first
   module _ {place : ℕ} {join join₁ : List ℕ} (within : place ≤ length area) (joins : mostValue ≤ length join) where
-    no-option : {code parts len to : ℕ} → drop place area ≡ encodeAll [] ++ rest → Stepped area place join join₁ (Found code parts len to) → ⊥
-    no-option here s =
-        let e = s .told ∙ at-end area rest (length join) short joins place within here in let z : _≡_ {A = ℕ} 0 1 = cc in omega arith
-
     module _ (o : Opt) (os : List Opt) {code parts len to : ℕ} (v : Valid (o ∷ os)) (here : drop place area ≡ encodeAll (o ∷ os) ++ rest)
         (s : Stepped area place join join₁ (Found code parts len to)) where
       first : First area rest (length join) short joins o os place
@@ -96,7 +97,7 @@ module _ (area rest : List ℕ) (short : length area ≤ mostBytes) where
       → Left os sofar (place + length (encodeAll os)) at join′
   steps-left os none v within here joins =
       record { left = os; split = refl; valid = v; within = within; here = here; ends-there = refl; joins = joins }
-  steps-left [] (one s more) v within here joins = absurd (no-option within joins here s)
+  steps-left [] (one s more) v within here joins = option-stop (s .told ∙ at-end area rest _ short joins _ within here)
   steps-left (o ∷ os) (one s more) v within here joins =
       let f = first within joins o os v here s in
       let to = the-place within joins o os v here s in
@@ -119,11 +120,6 @@ is-end End e = refl
 is-end CutLength e = cc
 is-end CutValue e = cc
 is-end CutContinuation e = cc
-
--- two answers that are not alike
-module _ {A : Type 0} {s : walk.Stop} {c n at to : ℕ} {v : List ℕ} where
-  option-stop : _≡_ {A = Answer walk.Found} (given (walk.option c v n at)) (given (walk.stop s to)) → A
-  option-stop e = absurd (let z : _≡_ {A = ℕ} 0 1 = cc in omega arith)
 
 -- the area that begins with the list's bytes is listed back
 module _ (options : List Opt) (rest area join : List ℕ) (valid : Valid options) (short : length area ≤ mostBytes)

@@ -40,7 +40,8 @@ pub data Outcome : Type 0 where
   all : ℕ → List ℕ → ℕ → Outcome
   stuck : ℕ → ℕ → Outcome
 
--- at an index, with what the row there answers: the rest goes on behind it, or it decides
+-- at an index, with what the row there answers: the rest goes on behind it, or it decides. (A write has nothing to join, so that 5 does
+-- not come)
 unfoldable pub orStuck : ℕ → Answer ℕ → (ℕ → Outcome) → Outcome
 orStuck index (given next) more = more next
 orStuck index (refused number) more = stuck index number
