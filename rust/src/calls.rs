@@ -338,6 +338,43 @@ use boundary::*;
 // of them. Rows are lent as the numbers that they are made of: `Row`, `ReadRow` and `WriteRow` are nothing but `usize`,
 // one behind the other, and any numbers are rows.
 
+/// A row of the safe crate, which is nothing but a row that crosses.
+///
+/// # Safety
+///
+/// The type is `repr(transparent)` over `Bare`.
+pub(crate) unsafe trait Wraps {
+    /// The row that crosses.
+    type Bare;
+}
+
+// SAFETY: each is declared `repr(transparent)`.
+unsafe impl Wraps for crate::Row {
+    type Bare = Row;
+}
+
+unsafe impl Wraps for crate::ReadRow {
+    type Bare = ReadRow;
+}
+
+unsafe impl Wraps for crate::WriteRow {
+    type Bare = WriteRow;
+}
+
+/// Rows of the safe crate as what they are made of.
+#[inline]
+pub(crate) fn bare<W: Wraps>(rows: &[W]) -> &[W::Bare] {
+    // SAFETY: by `Wraps` both types have one layout.
+    unsafe { &*(rows as *const [W] as *const [W::Bare]) }
+}
+
+/// Rows of the safe crate as what they are made of, to be filled.
+#[inline]
+pub(crate) fn bare_mut<W: Wraps>(rows: &mut [W]) -> &mut [W::Bare] {
+    // SAFETY: by `Wraps` both types have one layout.
+    unsafe { &mut *(rows as *mut [W] as *mut [W::Bare]) }
+}
+
 /// How many numbers rows are made of.
 #[inline]
 fn numbers<R>(rows: &[R]) -> usize {

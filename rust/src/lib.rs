@@ -15,28 +15,36 @@
 //! # bytes[..3].copy_from_slice(&[1, 1, 6]);
 //! # bytes[236..240].copy_from_slice(&[99, 130, 83, 99]);
 //! # bytes[240..252].copy_from_slice(&[53, 1, 3, 12, 2, 104, 111, 12, 2, 115, 116, 255]);
-//! use sindovaleph::{Message, Refusal};
+//! use sindovaleph::{Message, Refusal, codes, ops};
 //!
 //! let message = Message::new(&bytes)?;
-//! assert_eq!((message.opcode(), message.hlen()), (1, 6));
+//! assert_eq!((message.opcode(), message.hlen()), (ops::BOOT_REQUEST, 6));
 //! assert_eq!(message.chaddr()?.len(), 6);
 //!
 //! let mut join = [0; 4096];
-//! for opt in message.opts(&mut join) {
-//!     println!("option {}: {:?}", opt.code(), opt.data());
+//! let mut opts = message.opts(&mut join);
+//! for opt in &mut opts {
+//!     let opt = opt?;
+//!     match opt.code() {
+//!         codes::HOSTNAME => assert_eq!(opt.data(), b"host"),
+//!         code => println!("option {code}: {:?}", opt.data()),
+//!     }
 //! }
-//! # let codes: Vec<u8> = message.opts(&mut join).map(|opt| opt.code()).collect();
-//! # assert_eq!(codes, [53, 12]);
+//! if !opts.is_closed() {
+//!     println!("the message is cut: {:?} at {}", opts.ending(), opts.place());
+//! }
+//! # assert!(opts.is_closed());
 //! # Ok::<(), Refusal>(())
 //! ```
 //!
 //! An option may stand in several parts, which are joined in the buffer that is lent. One of the area's length always
-//! suffices. What stands in one part is shown where it stands.
+//! suffices; a shorter one may be [`Refusal::JoinTooShort`], which the loop gets in place of the option. What stands in
+//! one part is shown where it stands.
 //!
-//! # Why a walk stops
+//! # Why a walk ends
 //!
-//! At a stop `next` gives `None`, and a further call goes on past it, as in dhcproto. [`Options::ending`] tells a clean
-//! end from a cut message.
+//! At a stop `next` gives `None`, and a further call goes on past it, as in dhcproto. [`Options::is_closed`] tells an
+//! End from all else, and [`Options::ending`] which it was.
 //!
 //! ```
 //! use sindovaleph::{Ending, Options, Stop};
@@ -46,26 +54,26 @@
 //! let mut options = Options::new(&area, &mut join);
 //! assert_eq!(options.by_ref().count(), 1);
 //! assert_eq!(options.ending(), Some(Ending::Stopped(Stop::CutValue)));
-//! assert_eq!(options.place(), 5);
+//! assert_eq!((options.is_closed(), options.place()), (false, 5));
 //! ```
 //!
 //! # Typed values
 //!
-//! A code has a [`Kind`], and its value reads as that: [`read`] reads it plainly, [`read_strict`] refuses what the RFCs
-//! do not allow.
+//! A code has a [`Kind`], and its value reads as that: [`read`] reads it plainly, and [`read_strict`] asks for exact
+//! lengths, and for 0 or 1 where yes or no is meant.
 //!
 //! ```
-//! use sindovaleph::{Element, Refusal, Value, read, read_strict};
+//! use sindovaleph::{Refusal, Value, codes, read, read_strict};
 //! use std::net::Ipv4Addr;
 //!
-//! assert_eq!(read(51, &[0, 0, 14, 16]), Ok(Value::U32(3600)));
-//! assert_eq!(read(12, b"host-17"), Ok(Value::Text("host-17")));
-//! assert_eq!(read(51, &[0, 0, 14]), Err(Refusal::WrongLength));
-//! assert_eq!(read_strict(19, &[2]), Err(Refusal::UnclearYesNo));
+//! assert_eq!(read(codes::ADDRESS_LEASE_TIME, &[0, 0, 14, 16]), Ok(Value::U32(3600)));
+//! assert_eq!(read(codes::HOSTNAME, b"host-17"), Ok(Value::Text("host-17")));
+//! assert_eq!(read(codes::ADDRESS_LEASE_TIME, &[0, 0, 14]), Err(Refusal::WrongLength));
+//! assert_eq!(read_strict(codes::IP_FORWARDING, &[2]), Err(Refusal::UnclearYesNo));
 //!
-//! let Ok(Value::Addresses(routers)) = read(3, &[192, 0, 2, 1, 192, 0, 2, 2]) else { panic!() };
+//! let Ok(Value::Addresses(routers)) = read(codes::ROUTER, &[192, 0, 2, 1, 192, 0, 2, 2]) else { panic!() };
 //! assert_eq!(routers.len(), 2);
-//! assert_eq!(routers.get(1), Ok(Element::Address(Ipv4Addr::new(192, 0, 2, 2))));
+//! assert_eq!(routers.iter().last(), Some(Ipv4Addr::new(192, 0, 2, 2)));
 //! ```
 //!
 //! # All options in one call
@@ -77,38 +85,44 @@
 //! # let mut bytes = [0; 256];
 //! # bytes[236..240].copy_from_slice(&[99, 130, 83, 99]);
 //! # bytes[240..250].copy_from_slice(&[53, 1, 3, 51, 4, 0, 0, 14, 16, 255]);
-//! use sindovaleph::{Message, ReadRow, Refusal, Stop, Value};
+//! use sindovaleph::{Message, ReadRow, Refusal, Stop, Value, message_types};
 //!
 //! let message = Message::new(&bytes)?;
 //! let mut rows = [ReadRow::default(); 32];
-//! let listed = message.read_list(&mut rows, false)?;
+//! let listed = message.read_list(&mut rows)?;
 //! assert_eq!((listed.rows, listed.stop), (2, Some(Stop::End)));
-//! assert_eq!(rows[0].value(message.area()), Ok(Value::MessageType(3)));
+//! assert_eq!(rows[0].value(message.area()), Ok(Value::MessageType(message_types::REQUEST)));
 //! assert_eq!(rows[1].value(message.area()), Ok(Value::U32(3600)));
 //! # Ok::<(), Refusal>(())
 //! ```
 //!
-//! Nothing is joined there: where [`Row::parts`] says that an option has several, [`Row::join`] joins them.
+//! Nothing is joined there: where [`Row::parts`] says that an option has several, [`Row::join`] joins them. Where the
+//! rows are full, `stop` is `None`, and [`list`] goes on from `place`.
 //!
 //! # Writing options
 //!
 //! ```
-//! use sindovaleph::{Refusal, Route, Writer};
+//! use sindovaleph::{Refusal, Route, Writer, codes, message_types};
 //! use std::net::Ipv4Addr;
 //!
+//! let router = Ipv4Addr::new(192, 0, 2, 1);
 //! let mut room = [0; 64];
 //! let mut writer = Writer::new(&mut room);
-//! writer.message_type(53, 5)?;
-//! writer.address(54, Ipv4Addr::new(192, 0, 2, 1))?;
-//! writer.routes(&[Route::new(8, Ipv4Addr::new(10, 0, 0, 0), Ipv4Addr::new(192, 0, 2, 1))])?;
-//! assert_eq!(writer.u32(53, 1), Err(Refusal::OtherKind));
+//! writer.message_type(codes::MESSAGE_TYPE, message_types::ACK)?;
+//! writer.addresses(codes::ROUTER, &[router])?;
+//! writer.routes(&[Route::new(8, Ipv4Addr::new(10, 0, 0, 0), router)])?;
+//! assert_eq!(writer.u32(codes::MESSAGE_TYPE, 1), Err(Refusal::OtherKind));
 //! writer.close()?;
-//! assert_eq!(writer.written(), [53, 1, 5, 54, 4, 192, 0, 2, 1, 121, 6, 8, 10, 192, 0, 2, 1, 255]);
+//! assert_eq!(writer.written(), [53, 1, 5, 3, 4, 192, 0, 2, 1, 121, 6, 8, 10, 192, 0, 2, 1, 255]);
 //! # Ok::<(), Refusal>(())
 //! ```
 //!
 //! [`Writer::at`] writes behind a header that stands in the room, from 240 on. [`Writer::list`] writes many options in
 //! one call: all of them, or none where a row is refused, which [`RowRefused`] names.
+//!
+//! # A message as text
+//!
+//! [`listing()`] writes what `./list` prints, for logs and for people.
 //!
 //! # From dhcproto to sindovaleph
 //!
@@ -117,16 +131,23 @@
 //! | `dhcproto::v4::borrowed::Message` | [`Message`] |
 //! | `Message::new(bytes)?`, a `DecodeError` | the same, a [`Refusal`] |
 //! | `hlen` `hops` `xid` `secs` `ciaddr` `yiaddr` `siaddr` `giaddr` `sname` `fname` | the same |
-//! | `opcode()` `htype()` `flags()`, types of their own | numbers: `opcode() == 1`, `flags() & 0x8000 != 0` |
+//! | `opcode() == Opcode::BootRequest` | `opcode() == ops::BOOT_REQUEST`, a number |
+//! | `htype()`, a type of its own | a number: 1 is Ethernet |
+//! | `flags().broadcast()` | `flags() & flags::BROADCAST != 0` |
 //! | `chaddr()`, which panics where hlen is too large | `chaddr()?` |
-//! | `opts()` | `opts(&mut join)` |
+//! | `for opt in message.opts() {` | `for opt in message.opts(&mut join) {` and `let opt = opt?;` |
 //! | `DhcpOptionIterator::new(area)` | [`Options::new`]`(area, &mut join)` |
-//! | `DhcpOption`: `code()`, an `OptionCode` | [`Opt`]: `code()`, a number |
+//! | `DhcpOption`: `code()`, an `OptionCode` | [`Opt`]: `code()`, a number, with names in [`codes`] |
 //! | `data()` `len()` `is_empty()` | the same |
 //! | `into_option()?`, a `v4::DhcpOption` | [`read()?`](Opt::read), a [`Value`] by the code's kind |
-//! | `DhcpOption::MessageType(MessageType::Ack)` | `Value::MessageType(5)` |
-//! | `DhcpOption::Hostname(String)` | `Value::Text(&str)` of an option with code 12 |
-//! | `DhcpOption::encode(&mut encoder)` | a call of [`Writer`], as `writer.text(12, "host")` |
+//! | `DhcpOption::MessageType(MessageType::Ack)` | `Value::MessageType(message_types::ACK)` |
+//! | `DhcpOption::Hostname(String)` | `Value::Text(&str)` of an option with code `codes::HOSTNAME` |
+//! | `DhcpOption::Router(Vec<Ipv4Addr>)` | `Value::Addresses(list)` with code `codes::ROUTER`; `list.iter()` |
+//! | `DhcpOption::Hostname("host".into()).encode(&mut e)?` | `writer.text(codes::HOSTNAME, "host")?` |
+//! | `DhcpOption::End.encode(&mut e)?` | `writer.close()?` |
+//!
+//! `examples/service.rs` is a lease service on this crate, and `compare/examples/service.rs` of the repository the same
+//! one on dhcproto: `compare/service` says in how many lines they differ, and runs both.
 //!
 //! Domain names, FQDN, relay contents and bulk-query codes stay with dhcproto: their codes are [`Value::Raw`] here.
 //! `docs/DIFFERENCES.md` of the repository lists every difference, with the input that shows it.
@@ -150,6 +171,7 @@ macro_rules! numbered {
     ($(#[$about:meta])* pub enum $name:ident { $($(#[$says:meta])* $case:ident = $number:literal,)* }) => {
         $(#[$about])*
         #[repr(u8)]
+        #[non_exhaustive]
         #[derive(Clone, Copy, Debug, PartialEq, Eq, PartialOrd, Ord, Hash)]
         pub enum $name {
             $($(#[$says])* $case = $number,)*
@@ -158,12 +180,14 @@ macro_rules! numbered {
         impl $name {
             /// The number.
             #[inline]
+            #[must_use]
             pub const fn number(self) -> u8 {
                 self as u8
             }
 
             /// The case of a number, if there is one.
             #[inline]
+            #[must_use]
             pub const fn from_number(number: u8) -> Option<$name> {
                 match number {
                     $($number => Some($name::$case),)*
@@ -171,21 +195,35 @@ macro_rules! numbered {
                 }
             }
         }
+
+        impl TryFrom<u8> for $name {
+            type Error = $crate::NoSuchNumber;
+
+            #[inline]
+            fn try_from(number: u8) -> Result<$name, $crate::NoSuchNumber> {
+                $name::from_number(number).ok_or($crate::NoSuchNumber(number))
+            }
+        }
     };
 }
 
 #[allow(unsafe_code)]
 pub mod calls;
+pub mod listing;
 pub mod message;
+pub mod names;
 pub mod options;
 pub mod refusal;
 pub mod rows;
+mod shown;
 pub mod value;
 pub mod writer;
 
+pub use listing::listing;
 pub use message::{Message, xid};
+pub use names::{codes, flags, message_types, ops};
 pub use options::{Ending, Opt, Options, Stop};
-pub use refusal::{Refusal, RowRefused};
-pub use rows::{Listed, ReadRow, Row, list, read_list};
-pub use value::{Element, Elements, Kind, List, NodeType, Value, element, kind_of, read, read_strict};
+pub use refusal::{NoSuchNumber, Refusal, RowRefused};
+pub use rows::{Listed, ReadRow, Row, list, read_list, read_list_strict};
+pub use value::{Element, Elements, Kind, List, NodeType, Value, kind_of, read, read_strict};
 pub use writer::{Route, WriteRow, Writer};

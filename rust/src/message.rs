@@ -4,6 +4,8 @@ use crate::calls::{self, Fields};
 use crate::options::Options;
 use crate::refusal::{Refusal, checked};
 use crate::rows::{self, Listed, ReadRow, Row};
+use crate::shown::{Bytes, Hardware, Text};
+use core::fmt;
 use core::net::Ipv4Addr;
 
 // Where the parts of a message begin (RFC 2131, figure 1) that are shown as bytes.
@@ -13,7 +15,7 @@ const FILE: usize = 108;
 const OPTIONS: usize = 240;
 
 /// A DHCP message, whose bytes are lent. [`Message::new`] reads the whole header in one call.
-#[derive(Clone, Copy, Debug)]
+#[derive(Clone, Copy)]
 pub struct Message<'a> {
     bytes: &'a [u8],
     fields: Fields,
@@ -31,72 +33,84 @@ impl<'a> Message<'a> {
 
     /// The bytes of the message, as they were lent.
     #[inline]
+    #[must_use]
     pub fn bytes(&self) -> &'a [u8] {
         self.bytes
     }
 
-    /// op: 1 from a client, 2 from a server.
+    /// op: 1 from a client, 2 from a server ([`ops`](crate::ops)).
     #[inline]
+    #[must_use]
     pub fn opcode(&self) -> u8 {
         self.fields.op
     }
 
     /// The type of the hardware address: 1 is Ethernet.
     #[inline]
+    #[must_use]
     pub fn htype(&self) -> u8 {
         self.fields.htype
     }
 
     /// The length of the hardware address, as the message says it.
     #[inline]
+    #[must_use]
     pub fn hlen(&self) -> u8 {
         self.fields.hlen
     }
 
     /// How many relays the message came through.
     #[inline]
+    #[must_use]
     pub fn hops(&self) -> u8 {
         self.fields.hops
     }
 
     /// The number of the transaction.
     #[inline]
+    #[must_use]
     pub fn xid(&self) -> u32 {
         self.fields.xid
     }
 
     /// The seconds since the client began.
     #[inline]
+    #[must_use]
     pub fn secs(&self) -> u16 {
         self.fields.secs
     }
 
-    /// The flags: the highest bit, 0x8000, asks for answers by broadcast.
+    /// The flags: [`BROADCAST`](crate::flags::BROADCAST), the highest bit, asks for answers by broadcast.
     #[inline]
+    #[must_use]
     pub fn flags(&self) -> u16 {
         self.fields.flags
     }
 
     /// The client's address, where it has one.
     #[inline]
+    #[must_use]
     pub fn ciaddr(&self) -> Ipv4Addr {
         Ipv4Addr::from_bits(self.fields.ciaddr)
     }
 
     /// The address that the client is given.
     #[inline]
+    #[must_use]
     pub fn yiaddr(&self) -> Ipv4Addr {
         Ipv4Addr::from_bits(self.fields.yiaddr)
     }
 
     /// The address of the next server.
     #[inline]
+    #[must_use]
     pub fn siaddr(&self) -> Ipv4Addr {
         Ipv4Addr::from_bits(self.fields.siaddr)
     }
 
     /// The address of the relay.
     #[inline]
+    #[must_use]
     pub fn giaddr(&self) -> Ipv4Addr {
         Ipv4Addr::from_bits(self.fields.giaddr)
     }
@@ -111,24 +125,28 @@ impl<'a> Message<'a> {
 
     /// The server's name, up to its first zero.
     #[inline]
+    #[must_use]
     pub fn sname(&self) -> &'a [u8] {
         self.shown(SNAME, usize::from(self.fields.sname))
     }
 
     /// The name of the boot file, up to its first zero.
     #[inline]
+    #[must_use]
     pub fn fname(&self) -> &'a [u8] {
         self.shown(FILE, usize::from(self.fields.file))
     }
 
     /// Whether the magic stands before the options, as it does in every DHCP message.
     #[inline]
+    #[must_use]
     pub fn has_magic(&self) -> bool {
         !self.fields.wrong_magic
     }
 
     /// The area of the options: all bytes behind the magic. With another magic it is empty.
     #[inline]
+    #[must_use]
     pub fn area(&self) -> &'a [u8] {
         if self.fields.wrong_magic {
             return &[];
@@ -154,14 +172,35 @@ impl<'a> Message<'a> {
 
     /// All options and their values in one call, from the first on: see [`read_list`](rows::read_list).
     #[inline]
-    pub fn read_list(&self, rows: &mut [ReadRow], strict: bool) -> Result<Listed, Refusal> {
-        rows::read_list(self.area(), 0, rows, strict)
+    pub fn read_list(&self, rows: &mut [ReadRow]) -> Result<Listed, Refusal> {
+        rows::read_list(self.area(), 0, rows)
+    }
+
+    /// The same, read strictly: see [`read_list_strict`](rows::read_list_strict).
+    #[inline]
+    pub fn read_list_strict(&self, rows: &mut [ReadRow]) -> Result<Listed, Refusal> {
+        rows::read_list_strict(self.area(), 0, rows)
     }
 
     /// So many bytes from a start on. The header's answer has it that they are there.
     #[inline]
     fn shown(&self, start: usize, len: usize) -> &'a [u8] {
         self.bytes.get(start..).and_then(|from| from.get(..len)).unwrap_or(&[])
+    }
+}
+
+impl fmt::Debug for Message<'_> {
+    fn fmt(&self, f: &mut fmt::Formatter<'_>) -> fmt::Result {
+        let mut shown = f.debug_struct("Message");
+        shown.field("bytes", &Bytes(self.bytes.len()));
+        shown.field("op", &self.opcode()).field("htype", &self.htype()).field("hlen", &self.hlen());
+        shown.field("hops", &self.hops()).field("xid", &format_args!("{:#010x}", self.xid()));
+        shown.field("secs", &self.secs()).field("flags", &format_args!("{:#06x}", self.flags()));
+        shown.field("ciaddr", &self.ciaddr()).field("yiaddr", &self.yiaddr());
+        shown.field("siaddr", &self.siaddr()).field("giaddr", &self.giaddr());
+        shown.field("chaddr", &self.chaddr().map(Hardware));
+        shown.field("sname", &Text(self.sname())).field("fname", &Text(self.fname()));
+        shown.field("has_magic", &self.has_magic()).field("area", &Bytes(self.area().len())).finish()
     }
 }
 

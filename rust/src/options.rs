@@ -2,6 +2,7 @@
 
 use crate::calls;
 use crate::refusal::Refusal;
+use crate::shown::{Bytes, Code};
 use crate::value::{self, Value};
 use core::{fmt, mem};
 
@@ -34,8 +35,10 @@ impl fmt::Display for Stop {
     }
 }
 
-/// Why a walk gave `None`.
+/// Why a walk ended: it stopped, or it was refused.
 #[derive(Clone, Copy, Debug, PartialEq, Eq)]
+#[non_exhaustive]
+#[must_use]
 pub enum Ending {
     /// It stopped. The place has moved.
     Stopped(Stop),
@@ -48,8 +51,18 @@ pub enum Ending {
 }
 
 impl Ending {
+    /// The refusal, where it is one.
+    #[inline]
+    #[must_use]
+    pub const fn refusal(self) -> Option<Refusal> {
+        match self {
+            Ending::Stopped(_) => None,
+            Ending::Refused(refusal) => Some(refusal),
+            Ending::Needs(_) => Some(Refusal::JoinTooShort),
+        }
+    }
+
     /// The ending that crossed as a step with a refusal or a stop.
-    #[cold]
     fn of(refused: u8, stop: u8, len: usize) -> Ending {
         match (Refusal::from_number(refused), Stop::from_number(stop)) {
             (Some(Refusal::JoinTooShort), _) => Ending::Needs(len),
@@ -59,15 +72,28 @@ impl Ending {
     }
 }
 
+impl fmt::Display for Ending {
+    fn fmt(&self, f: &mut fmt::Formatter<'_>) -> fmt::Result {
+        match self {
+            Ending::Stopped(stop) => write!(f, "{stop}"),
+            Ending::Refused(refusal) => write!(f, "{refusal}"),
+            Ending::Needs(len) => write!(f, "{}: it takes {len} bytes", Refusal::JoinTooShort),
+        }
+    }
+}
+
 /// The options of an area, one after the other.
 ///
-/// `next` gives `None` at each of the five [`Stop`]s, and a further call goes on past it; [`Options::ending`] says why.
-/// A `for` loop ends at the first of them.
+/// `next` gives `None` at each of the five [`Stop`]s, and a further call goes on past it; [`Options::ending`] says why,
+/// and [`Options::is_closed`] whether it was End. A `for` loop ends at the first of them.
+///
+/// A walk that is refused gives the refusal, once, and then `None`: so a loop's body gets it, and no loop runs forever.
+/// Only a join buffer that is too short does that to the options of a [`Message`](crate::Message).
 ///
 /// An option of two or more parts is joined in the front of what is left of the join buffer, and keeps those bytes: so
 /// all options live as long as the area and the buffer, and can be collected. A buffer of the area's length always
 /// suffices, as every byte of the area is joined once at most. With one part nothing is copied.
-#[derive(Debug)]
+#[must_use = "a walk reads nothing until it is asked for the next option"]
 pub struct Options<'a> {
     area: &'a [u8],
     join: &'a mut [u8],
@@ -90,14 +116,24 @@ impl<'a> Options<'a> {
 
     /// The place in the area where the next call begins.
     #[inline]
+    #[must_use]
     pub fn place(&self) -> usize {
         self.place
     }
 
-    /// Why the last `None` was given; nothing where there was none yet.
+    /// Why the walk ended last; nothing where it did not yet.
     #[inline]
+    #[must_use]
     pub fn ending(&self) -> Option<Ending> {
         self.ending
+    }
+
+    /// Whether the walk ended last at an End, as it does where a message is whole. Not so where bytes ran out, something
+    /// is cut or refused, or the walk has not ended yet.
+    #[inline]
+    #[must_use]
+    pub fn is_closed(&self) -> bool {
+        self.ending == Some(Ending::Stopped(Stop::End))
     }
 
     /// The first `len` bytes of the join buffer, which the walk then no longer has.
@@ -109,21 +145,37 @@ impl<'a> Options<'a> {
         self.join = left;
         value
     }
+
+    /// Keeps why the walk ended, and gives a refusal where it is a new one: a refused walk stands where it stood, and
+    /// would be refused again and again.
+    #[cold]
+    fn ended(&mut self, ending: Ending) -> Option<Refusal> {
+        let refused_before = self.ending.and_then(Ending::refusal).is_some();
+        self.ending = Some(ending);
+        ending.refusal().filter(|_| !refused_before)
+    }
 }
 
 impl<'a> Iterator for Options<'a> {
-    type Item = Opt<'a>;
+    type Item = Result<Opt<'a>, Refusal>;
 
     #[inline]
-    fn next(&mut self) -> Option<Opt<'a>> {
+    fn next(&mut self) -> Option<Result<Opt<'a>, Refusal>> {
         let step = calls::step(self.area, self.place, self.join);
         self.place = step.place;
         if step.refused | step.stop != 0 {
-            self.ending = Some(Ending::of(step.refused, step.stop, step.len));
-            return None;
+            return self.ended(Ending::of(step.refused, step.stop, step.len)).map(Err);
         }
         let data = if step.parts == 1 { before(self.area, step.place, step.len) } else { Some(self.joined(step.len)) };
-        Some(Opt { data: data.unwrap_or(&[]), parts: step.parts, place: step.place, code: step.code })
+        Some(Ok(Opt { data: data.unwrap_or(&[]), parts: step.parts, place: step.place, code: step.code }))
+    }
+}
+
+impl fmt::Debug for Options<'_> {
+    fn fmt(&self, f: &mut fmt::Formatter<'_>) -> fmt::Result {
+        let mut shown = f.debug_struct("Options");
+        shown.field("area", &Bytes(self.area.len())).field("join", &Bytes(self.join.len()));
+        shown.field("place", &self.place).field("ending", &self.ending).finish()
     }
 }
 
@@ -134,7 +186,7 @@ pub(crate) fn before(area: &[u8], place: usize, len: usize) -> Option<&[u8]> {
 }
 
 /// An option: its code and its value, whose bytes stand in the area or in the join buffer.
-#[derive(Clone, Copy, Debug, PartialEq, Eq)]
+#[derive(Clone, Copy, PartialEq, Eq)]
 pub struct Opt<'a> {
     data: &'a [u8],
     parts: usize,
@@ -145,36 +197,42 @@ pub struct Opt<'a> {
 impl<'a> Opt<'a> {
     /// The code.
     #[inline]
+    #[must_use]
     pub fn code(&self) -> u8 {
         self.code
     }
 
     /// The value, joined where it has several parts.
     #[inline]
+    #[must_use]
     pub fn data(&self) -> &'a [u8] {
         self.data
     }
 
     /// How many bytes the value has.
     #[inline]
+    #[must_use]
     pub fn len(&self) -> usize {
         self.data.len()
     }
 
     /// Whether the value has no byte.
     #[inline]
+    #[must_use]
     pub fn is_empty(&self) -> bool {
         self.data.is_empty()
     }
 
     /// Of how many parts the value was made.
     #[inline]
+    #[must_use]
     pub fn parts(&self) -> usize {
         self.parts
     }
 
     /// The place in the area behind the option, where the walk goes on.
     #[inline]
+    #[must_use]
     pub fn place(&self) -> usize {
         self.place
     }
@@ -189,5 +247,17 @@ impl<'a> Opt<'a> {
     #[inline]
     pub fn read_strict(&self) -> Result<Value<'a>, Refusal> {
         value::read_strict(self.code, self.data)
+    }
+}
+
+impl fmt::Debug for Opt<'_> {
+    fn fmt(&self, f: &mut fmt::Formatter<'_>) -> fmt::Result {
+        let mut shown = f.debug_struct("Opt");
+        shown.field("code", &Code(self.code)).field("parts", &self.parts).field("place", &self.place);
+        match self.read() {
+            Ok(value) => shown.field("value", &value),
+            Err(refusal) => shown.field("data", &self.data).field("refused", &refusal),
+        };
+        shown.finish()
     }
 }

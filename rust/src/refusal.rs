@@ -60,6 +60,18 @@ impl fmt::Display for Refusal {
 
 impl core::error::Error for Refusal {}
 
+/// A number that stands for nothing where it was looked up, as by `Refusal::try_from`.
+#[derive(Clone, Copy, Debug, PartialEq, Eq)]
+pub struct NoSuchNumber(pub u8);
+
+impl fmt::Display for NoSuchNumber {
+    fn fmt(&self, f: &mut fmt::Formatter<'_>) -> fmt::Result {
+        write!(f, "nothing has the number {}", self.0)
+    }
+}
+
+impl core::error::Error for NoSuchNumber {}
+
 /// Which row is refused of those that one call was to write, and why. Nothing is written then.
 #[derive(Clone, Copy, Debug, PartialEq, Eq)]
 pub struct RowRefused {

@@ -2,6 +2,8 @@
 
 use crate::calls;
 use crate::refusal::{Refusal, checked};
+use core::fmt;
+use core::marker::PhantomData;
 use core::net::Ipv4Addr;
 use core::ops::Range;
 
@@ -45,6 +47,7 @@ numbered! {
 
 /// The kind of a code.
 #[inline]
+#[must_use]
 pub fn kind_of(code: u8) -> Kind {
     // No number above 15 is answered.
     Kind::from_number(calls::kind_of(code)).unwrap_or(Kind::Raw)
@@ -52,15 +55,16 @@ pub fn kind_of(code: u8) -> Kind {
 
 /// What a value reads as, a case for each [`Kind`].
 #[derive(Clone, Copy, Debug, PartialEq, Eq)]
+#[non_exhaustive]
 pub enum Value<'a> {
     /// Bytes as they stand.
     Raw(&'a [u8]),
     /// An address.
     Address(Ipv4Addr),
     /// Addresses.
-    Addresses(List<'a>),
-    /// Pairs of addresses.
-    Pairs(List<'a>),
+    Addresses(List<'a, Ipv4Addr>),
+    /// Pairs of addresses: an address and its mask, or a destination and its router.
+    Pairs(List<'a, (Ipv4Addr, Ipv4Addr)>),
     /// A byte.
     Byte(u8),
     /// Yes or no.
@@ -68,7 +72,7 @@ pub enum Value<'a> {
     /// A number of two bytes.
     U16(u16),
     /// Numbers of two bytes.
-    U16s(List<'a>),
+    U16s(List<'a, u16>),
     /// A number of four bytes.
     U32(u32),
     /// A number of four bytes in two's complement.
@@ -79,7 +83,7 @@ pub enum Value<'a> {
     Codes(&'a [u8]),
     /// A node type.
     NodeType(NodeType),
-    /// A message type: 1 DISCOVER, 2 OFFER, 3 REQUEST, 4 DECLINE, 5 ACK, 6 NAK, 7 RELEASE, 8 INFORM.
+    /// A message type: [`message_types`](crate::message_types) has their names.
     MessageType(u8),
     /// Three bytes.
     ThreeBytes([u8; 3]),
@@ -150,12 +154,6 @@ fn read_as(code: u8, value: &[u8], strict: bool) -> Result<Value<'_>, Refusal> {
     shown(code, value, reading.answer(), || reading.text())
 }
 
-/// The element at an index of a value that is a list. What is no list has no element.
-#[inline]
-pub fn element(code: u8, value: &[u8], index: usize) -> Result<Element, Refusal> {
-    element_of(kind_of(code), code, value, index)
-}
-
 /// What was answered about a value, with the value's bytes. `text` gives the value as text, where it is text; it is
 /// asked for no other kind.
 #[inline]
@@ -168,17 +166,16 @@ pub(crate) fn shown<'a>(
     checked(answer.refused)?;
     let number = answer.number;
     let kind = Kind::from_number(answer.kind).unwrap_or(Kind::Raw);
-    // Each list names its own kind, so that none is made before the arms.
-    let list = |kind: Kind| List { value, count: answer.count, kind, code };
+    let count = answer.count;
     Ok(match kind {
         Kind::Raw => Value::Raw(value),
         Kind::Address => Value::Address(Ipv4Addr::from_bits(number)),
-        Kind::Addresses => Value::Addresses(list(Kind::Addresses)),
-        Kind::Pairs => Value::Pairs(list(Kind::Pairs)),
+        Kind::Addresses => Value::Addresses(List::new(code, value, count)),
+        Kind::Pairs => Value::Pairs(List::new(code, value, count)),
         Kind::Byte => Value::Byte(number as u8),
         Kind::YesNo => Value::YesNo(number != 0),
         Kind::U16 => Value::U16(number as u16),
-        Kind::U16s => Value::U16s(list(Kind::U16s)),
+        Kind::U16s => Value::U16s(List::new(code, value, count)),
         Kind::U32 => Value::U32(number),
         Kind::I32 => Value::I32(number.cast_signed()),
         Kind::Text => Value::Text(text().ok_or(Refusal::NotUtf8)?),
@@ -193,105 +190,164 @@ pub(crate) fn shown<'a>(
     })
 }
 
-/// The element at an index, by the kind of its list.
-#[inline]
-fn element_of(kind: Kind, code: u8, value: &[u8], index: usize) -> Result<Element, Refusal> {
-    let answer = calls::element(code, value, index);
-    checked(answer.refused)?;
-    match kind {
-        Kind::Addresses => Ok(Element::Address(Ipv4Addr::from_bits(answer.first))),
-        Kind::Pairs => Ok(Element::Pair(Ipv4Addr::from_bits(answer.first), Ipv4Addr::from_bits(answer.second))),
-        Kind::U16s => Ok(Element::U16(answer.first as u16)),
-        Kind::Codes => Ok(Element::Code(answer.first as u8)),
-        _ => Err(Refusal::PastEnd),
+mod element {
+    use crate::calls;
+    use core::net::Ipv4Addr;
+
+    /// What an answer about an element is, by its type.
+    pub trait FromAnswer: Copy {
+        fn of(answer: calls::Element) -> Self;
+    }
+
+    impl FromAnswer for Ipv4Addr {
+        #[inline]
+        fn of(answer: calls::Element) -> Ipv4Addr {
+            Ipv4Addr::from_bits(answer.first)
+        }
+    }
+
+    impl FromAnswer for (Ipv4Addr, Ipv4Addr) {
+        #[inline]
+        fn of(answer: calls::Element) -> (Ipv4Addr, Ipv4Addr) {
+            (Ipv4Addr::from_bits(answer.first), Ipv4Addr::from_bits(answer.second))
+        }
+    }
+
+    impl FromAnswer for u16 {
+        #[inline]
+        fn of(answer: calls::Element) -> u16 {
+            answer.first as u16
+        }
     }
 }
 
-/// An element of a list.
-#[derive(Clone, Copy, Debug, PartialEq, Eq)]
-pub enum Element {
-    /// Of addresses.
-    Address(Ipv4Addr),
-    /// Of pairs of addresses: an address and its mask, or a destination and its router.
-    Pair(Ipv4Addr, Ipv4Addr),
-    /// Of numbers of two bytes.
-    U16(u16),
-    /// Of codes.
-    Code(u8),
-}
+/// The type of a list's elements: an address, a pair of them, or a number of two bytes.
+pub trait Element: element::FromAnswer {}
 
-/// A list, whose elements stand in the value.
-#[derive(Clone, Copy, Debug, PartialEq, Eq)]
-pub struct List<'a> {
+impl Element for Ipv4Addr {}
+
+impl Element for (Ipv4Addr, Ipv4Addr) {}
+
+impl Element for u16 {}
+
+/// A list, whose elements stand in the value. It can only be had by reading one.
+///
+/// ```
+/// use sindovaleph::{Refusal, Value, codes, read};
+/// use std::net::Ipv4Addr;
+///
+/// let Value::Addresses(servers) = read(codes::DOMAIN_NAME_SERVER, &[192, 0, 2, 1, 192, 0, 2, 2])? else { panic!() };
+/// let all: Vec<Ipv4Addr> = servers.iter().collect();
+/// assert_eq!(all, [Ipv4Addr::new(192, 0, 2, 1), Ipv4Addr::new(192, 0, 2, 2)]);
+/// assert_eq!((servers.get(1), servers.get(2)), (Ok(all[1]), Err(Refusal::PastEnd)));
+/// # Ok::<(), Refusal>(())
+/// ```
+#[derive(Clone, Copy)]
+pub struct List<'a, E> {
     value: &'a [u8],
     count: usize,
-    kind: Kind,
     code: u8,
+    of: PhantomData<E>,
 }
 
-impl<'a> List<'a> {
+impl<'a, E: Element> List<'a, E> {
+    /// A value of a code whose kind has such elements, and how many it has.
+    #[inline]
+    fn new(code: u8, value: &'a [u8], count: usize) -> List<'a, E> {
+        List { value, count, code, of: PhantomData }
+    }
+
     /// How many elements it has.
     #[inline]
+    #[must_use]
     pub fn len(&self) -> usize {
         self.count
     }
 
     /// Whether it has none.
     #[inline]
+    #[must_use]
     pub fn is_empty(&self) -> bool {
         self.count == 0
     }
 
     /// The element at an index; [`Refusal::PastEnd`] where there is none.
     #[inline]
-    pub fn get(&self, index: usize) -> Result<Element, Refusal> {
-        element_of(self.kind, self.code, self.value, index)
+    pub fn get(&self, index: usize) -> Result<E, Refusal> {
+        let answer = calls::element(self.code, self.value, index);
+        checked(answer.refused)?;
+        Ok(E::of(answer))
     }
 
     /// The elements, one after the other.
     #[inline]
-    pub fn iter(&self) -> Elements<'a> {
+    pub fn iter(&self) -> Elements<'a, E> {
         Elements { list: *self, indices: 0..self.count }
     }
 }
 
-impl<'a> IntoIterator for List<'a> {
-    type Item = Element;
-    type IntoIter = Elements<'a>;
+/// Lists are alike where their elements are, whatever their codes.
+impl<E> PartialEq for List<'_, E> {
+    fn eq(&self, other: &Self) -> bool {
+        self.value == other.value
+    }
+}
+
+impl<E> Eq for List<'_, E> {}
+
+impl<E: Element + fmt::Debug> fmt::Debug for List<'_, E> {
+    fn fmt(&self, f: &mut fmt::Formatter<'_>) -> fmt::Result {
+        f.debug_list().entries(self.iter()).finish()
+    }
+}
+
+impl<'a, E: Element> IntoIterator for List<'a, E> {
+    type Item = E;
+    type IntoIter = Elements<'a, E>;
 
     #[inline]
-    fn into_iter(self) -> Elements<'a> {
+    fn into_iter(self) -> Elements<'a, E> {
         self.iter()
     }
 }
 
-impl<'a> IntoIterator for &List<'a> {
-    type Item = Element;
-    type IntoIter = Elements<'a>;
+impl<'a, E: Element> IntoIterator for &List<'a, E> {
+    type Item = E;
+    type IntoIter = Elements<'a, E>;
 
     #[inline]
-    fn into_iter(self) -> Elements<'a> {
+    fn into_iter(self) -> Elements<'a, E> {
         self.iter()
     }
 }
 
 /// The elements of a list, one after the other.
-#[derive(Clone, Debug)]
-pub struct Elements<'a> {
-    list: List<'a>,
+#[derive(Clone)]
+#[must_use = "elements are read as they are asked for"]
+pub struct Elements<'a, E> {
+    list: List<'a, E>,
     indices: Range<usize>,
 }
 
-impl Iterator for Elements<'_> {
-    type Item = Element;
+impl<E: Element> Iterator for Elements<'_, E> {
+    type Item = E;
 
     #[inline]
-    fn next(&mut self) -> Option<Element> {
+    fn next(&mut self) -> Option<E> {
+        // No index below the count is refused.
         self.list.get(self.indices.next()?).ok()
     }
 
     #[inline]
     fn size_hint(&self) -> (usize, Option<usize>) {
         self.indices.size_hint()
+    }
+}
+
+impl<E: Element> ExactSizeIterator for Elements<'_, E> {}
+
+impl<E: Element + fmt::Debug> fmt::Debug for Elements<'_, E> {
+    fn fmt(&self, f: &mut fmt::Formatter<'_>) -> fmt::Result {
+        f.debug_list().entries(self.clone()).finish()
     }
 }

@@ -1,11 +1,16 @@
 //! Options, written into a lent room.
 
-pub use crate::calls::{Route, WriteRow};
+pub use crate::calls::Route;
 
 use crate::calls::{self, Written};
 use crate::refusal::{Refusal, RowRefused, checked};
+use crate::shown::{Bytes, Code};
 use crate::value::NodeType;
+use core::fmt;
 use core::net::Ipv4Addr;
+
+/// The most addresses that a value has: 4,080 bytes.
+const MOST_ADDRESSES: usize = 1_020;
 
 /// Writes options into a lent room, one behind the other.
 ///
@@ -13,7 +18,6 @@ use core::net::Ipv4Addr;
 /// values go to every code from 1 to 254, typed ones to a code of their kind ([`kind_of`](crate::kind_of)), and
 /// [`Refusal::OtherKind`] tells another. A value has at most 4,080 bytes; above 255 it is written in parts, lists in
 /// parts of whole elements. An empty value or list writes nothing.
-#[derive(Debug)]
 pub struct Writer<'a> {
     room: &'a mut [u8],
     place: usize,
@@ -34,12 +38,14 @@ impl<'a> Writer<'a> {
 
     /// The place in the room where the next write begins.
     #[inline]
+    #[must_use]
     pub fn place(&self) -> usize {
         self.place
     }
 
     /// The room up to the place: all that was written, and what stood before it.
     #[inline]
+    #[must_use]
     pub fn written(&self) -> &[u8] {
         self.room.get(..self.place).unwrap_or(&[])
     }
@@ -128,17 +134,23 @@ impl<'a> Writer<'a> {
         self.moved(written)
     }
 
-    /// Addresses, each as the number that [`Ipv4Addr::to_bits`] gives.
+    /// Addresses.
     #[inline]
-    pub fn addresses(&mut self, code: u8, addresses: &[u32]) -> Result<(), Refusal> {
-        let written = calls::write_addresses(self.room, self.place, code, addresses);
+    pub fn addresses(&mut self, code: u8, addresses: &[Ipv4Addr]) -> Result<(), Refusal> {
+        // With one more than the most that are written, whatever is longer is refused as this is.
+        let mut numbers = [0; MOST_ADDRESSES + 1];
+        let numbers = filled(&mut numbers, addresses.iter().copied());
+        let written = calls::write_addresses(self.room, self.place, code, numbers);
         self.moved(written)
     }
 
-    /// Pairs of addresses, one address behind the other.
+    /// Pairs of addresses: an address and its mask, or a destination and its router.
     #[inline]
-    pub fn pairs(&mut self, code: u8, addresses: &[u32]) -> Result<(), Refusal> {
-        let written = calls::write_pairs(self.room, self.place, code, addresses);
+    pub fn pairs(&mut self, code: u8, pairs: &[(Ipv4Addr, Ipv4Addr)]) -> Result<(), Refusal> {
+        // A pair more than is written.
+        let mut numbers = [0; MOST_ADDRESSES + 2];
+        let numbers = filled(&mut numbers, pairs.iter().flat_map(|&(first, second)| [first, second]));
+        let written = calls::write_pairs(self.room, self.place, code, numbers);
         self.moved(written)
     }
 
@@ -189,7 +201,7 @@ impl<'a> Writer<'a> {
     /// ```
     #[inline]
     pub fn list(&mut self, rows: &[WriteRow], values: &[u8]) -> Result<usize, RowRefused> {
-        let written = calls::write_list(self.room, self.place, rows, values);
+        let written = calls::write_list(self.room, self.place, calls::bare(rows), values);
         let answer = Written { refused: written.refused, place: written.place };
         self.moved(answer).map_err(|refusal| RowRefused { row: written.rows, refusal })?;
         Ok(written.rows)
@@ -210,11 +222,36 @@ impl<'a> Writer<'a> {
     }
 }
 
+impl fmt::Debug for Writer<'_> {
+    fn fmt(&self, f: &mut fmt::Formatter<'_>) -> fmt::Result {
+        f.debug_struct("Writer").field("room", &Bytes(self.room.len())).field("place", &self.place).finish()
+    }
+}
+
+/// Addresses as the numbers that cross, as many as there is room for.
+fn filled(numbers: &mut [u32], addresses: impl Iterator<Item = Ipv4Addr>) -> &[u32] {
+    let pairs = numbers.iter_mut().zip(addresses);
+    let count = pairs.map(|(number, address)| *number = address.to_bits()).count();
+    numbers.get(..count).unwrap_or(&[])
+}
+
+/// An option to be written: its code, and where its value stands in the values that are lent with it.
+#[repr(transparent)]
+#[derive(Clone, Copy, Default, PartialEq, Eq)]
+pub struct WriteRow(pub(crate) calls::WriteRow);
+
 impl WriteRow {
     /// An option with this code, whose value is `len` bytes of the values from `start` on.
     #[inline]
     pub const fn new(code: u8, start: usize, len: usize) -> WriteRow {
-        WriteRow { code: code as usize, start, len }
+        WriteRow(calls::WriteRow { code: code as usize, start, len })
+    }
+}
+
+impl fmt::Debug for WriteRow {
+    fn fmt(&self, f: &mut fmt::Formatter<'_>) -> fmt::Result {
+        let mut shown = f.debug_struct("WriteRow");
+        shown.field("code", &Code(self.0.code as u8)).field("start", &self.0.start).field("len", &self.0.len).finish()
     }
 }
 

@@ -10,10 +10,12 @@ type Served = (u32, Result<Vec<u8>, Refusal>, Option<u8>);
 fn serve(bytes: &[u8]) -> Result<Served, Refusal> {
     let message = Message::new(bytes)?;
     let mut join = [0; 64];
-    let kind = message.opts(&mut join).find_map(|opt| match opt.read() {
-        Ok(Value::MessageType(kind)) => Some(kind),
-        _ => None,
-    });
+    let mut kind = None;
+    for opt in message.opts(&mut join) {
+        if let Value::MessageType(found) = opt?.read()? {
+            kind = Some(found);
+        }
+    }
     Ok((message.xid(), message.chaddr().map(<[u8]>::to_vec), kind))
 }
 
@@ -33,7 +35,7 @@ fn the_hardware_address_is_refused_and_nothing_else() {
     assert_eq!(message.chaddr(), Err(Refusal::ChaddrPastEnd));
     assert_eq!(message.chaddr().unwrap_err().number(), 3);
     let mut opts = message.opts(&mut []);
-    let opt = opts.next().unwrap();
+    let opt = opts.next().unwrap().unwrap();
     assert_eq!((opt.code(), opt.data(), opt.read()), (53, &[3][..], Ok(Value::MessageType(3))));
     assert_eq!(opts.next(), None);
     assert_eq!(opts.ending(), Some(Ending::Stopped(Stop::End)));

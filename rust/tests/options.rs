@@ -21,9 +21,9 @@ fn calls(area: &[u8]) -> Vec<Call> {
     let mut calls = Vec::new();
     loop {
         calls.push(match (options.next(), options.ending()) {
-            (Some(opt), _) => Found(opt.code(), opt.data().to_vec(), opt.parts(), opt.place()),
+            (Some(Ok(opt)), _) => Found(opt.code(), opt.data().to_vec(), opt.parts(), opt.place()),
             (None, Some(Ending::Stopped(stop))) => Stopped(stop, options.place()),
-            (None, other) => panic!("{other:?}"),
+            other => panic!("{other:?}"),
         });
         if let Some(Stopped(Stop::Out, _)) = calls.last() {
             return calls;
@@ -66,7 +66,7 @@ fn joined_options_can_be_collected() {
     let bytes = message_with(&area);
     let message = Message::new(&bytes).unwrap();
     let mut join = [99; 6];
-    let all: Vec<Opt> = message.opts(&mut join).collect();
+    let all: Vec<Opt> = message.opts(&mut join).collect::<Result<_, _>>().unwrap();
     let found: Vec<_> = all.iter().map(|opt| (opt.code(), opt.data(), opt.len(), opt.is_empty())).collect();
     let expected: [(u8, &[u8], usize, bool); 4] =
         [(12, &[1, 2], 2, false), (13, &[3, 4], 2, false), (9, &[5, 6], 2, false), (12, &[], 0, true)];
@@ -74,20 +74,45 @@ fn joined_options_can_be_collected() {
     assert_eq!(join, [1, 2, 3, 4, 99, 99]);
 }
 
+/// A byte; a name of 3 bytes in two parts; a byte; End.
+const SPLIT: [u8; 14] = [9, 1, 7, 12, 1, 65, 12, 2, 66, 67, 23, 1, 64, 255];
+
+#[test]
+fn a_loop_gets_the_refusal_of_a_join_buffer_that_is_too_short() {
+    fn codes(join: &mut [u8]) -> Result<Vec<u8>, Refusal> {
+        let bytes = message_with(&SPLIT);
+        let mut codes = Vec::new();
+        for opt in Message::new(&bytes)?.opts(join) {
+            codes.push(opt?.code());
+        }
+        Ok(codes)
+    }
+    assert_eq!(codes(&mut [0; 3]), Ok(vec![9, 12, 23]));
+    assert_eq!(codes(&mut [0; 2]), Err(Refusal::JoinTooShort));
+    assert_eq!(codes(&mut []), Err(Refusal::JoinTooShort));
+}
+
+#[test]
+fn a_refusal_is_told_once_and_no_loop_runs_forever() {
+    let mut options = Options::new(&SPLIT, &mut []);
+    assert_eq!(options.by_ref().filter_map(Result::ok).count(), 1);
+    assert_eq!((options.next(), options.next()), (None, None));
+    assert_eq!((options.ending(), options.is_closed()), (Some(Ending::Needs(3)), false));
+    let mut options = Options::at(&SPLIT, 15, &mut []);
+    assert_eq!((options.by_ref().count(), options.count()), (1, 0));
+}
+
 #[test]
 fn a_join_buffer_that_is_too_short_can_be_replaced() {
-    let area = [9, 1, 7, 12, 1, 65, 12, 2, 66, 67, 255];
     let mut short = [99; 2];
-    let mut options = Options::new(&area, &mut short);
-    assert_eq!(options.next().map(|opt| opt.code()), Some(9));
-    for _ in 0..2 {
-        assert_eq!(options.next(), None);
-        assert_eq!((options.ending(), options.place()), (Some(Ending::Needs(3)), 3));
-    }
+    let mut options = Options::new(&SPLIT, &mut short);
+    assert_eq!(options.next().map(|opt| opt.map(|opt| opt.code())), Some(Ok(9)));
+    assert_eq!(options.next(), Some(Err(Refusal::JoinTooShort)));
+    assert_eq!((options.ending(), options.place()), (Some(Ending::Needs(3)), 3));
     let place = options.place();
     let mut long = [99; 4];
-    let mut options = Options::at(&area, place, &mut long);
-    assert_eq!(options.next().map(|opt| (opt.code(), opt.data())), Some((12, &[65, 66, 67][..])));
+    let mut options = Options::at(&SPLIT, place, &mut long);
+    assert_eq!(options.next().map(|opt| opt.map(|opt| (opt.code(), opt.data()))), Some(Ok((12, &[65, 66, 67][..]))));
     assert_eq!((short, long), ([99; 2], [65, 66, 67, 99]));
 }
 
@@ -96,8 +121,36 @@ fn what_is_left_to_join_in_gets_shorter() {
     let area = [12, 1, 65, 12, 1, 66, 13, 1, 67, 13, 1, 68];
     let mut join = [0; 3];
     let mut options = Options::new(&area, &mut join);
-    assert_eq!(options.next().map(|opt| opt.data()), Some(&[65, 66][..]));
-    assert_eq!((options.next(), options.ending()), (None, Some(Ending::Needs(2))));
+    assert_eq!(options.next().map(|opt| opt.map(|opt| opt.data())), Some(Ok(&[65, 66][..])));
+    assert_eq!(options.next(), Some(Err(Refusal::JoinTooShort)));
+    assert_eq!(options.ending(), Some(Ending::Needs(2)));
+}
+
+#[test]
+fn a_cut_walk_is_told_from_a_closed_one() {
+    // Whole; cut in the value, behind the length, behind the code, between options; and another message's magic.
+    let closed = |area: &[u8]| {
+        let mut options = Options::new(area, &mut []);
+        assert!(!options.is_closed() && options.ending().is_none());
+        assert!(options.by_ref().all(|opt| opt.is_ok()));
+        (options.is_closed(), options.ending())
+    };
+    let area = [53, 1, 5, 51, 4, 0, 0, 14, 16, 255];
+    assert_eq!(closed(&area), (true, Some(Ending::Stopped(Stop::End))));
+    assert_eq!(closed(&area[..8]), (false, Some(Ending::Stopped(Stop::CutValue))));
+    assert_eq!(closed(&area[..5]), (false, Some(Ending::Stopped(Stop::CutValue))));
+    assert_eq!(closed(&area[..4]), (false, Some(Ending::Stopped(Stop::CutLength))));
+    assert_eq!(closed(&area[..3]), (false, Some(Ending::Stopped(Stop::Out))));
+    assert_eq!(closed(&[]), (false, Some(Ending::Stopped(Stop::Out))));
+}
+
+#[test]
+fn endings_have_words_and_refusals() {
+    let all = [Ending::Stopped(Stop::CutValue), Ending::Refused(Refusal::PastEnd), Ending::Needs(3)];
+    assert_eq!(all.map(Ending::refusal), [None, Some(Refusal::PastEnd), Some(Refusal::JoinTooShort)]);
+    let words = all.map(|ending| ending.to_string());
+    assert_eq!(words[..2], ["cut value", "the place or the index is past the end"]);
+    assert_eq!(words[2], "the room to join the option's parts in is too short: it takes 3 bytes");
 }
 
 #[test]
@@ -120,8 +173,10 @@ fn refused_walks_stay_where_they_are() {
     let area = vec![0; 65_536];
     let mut options = Options::new(&area, &mut []);
     assert_eq!(options.ending(), None);
+    assert_eq!(options.next(), Some(Err(Refusal::TooLong)));
     assert_eq!((options.next(), options.ending()), (None, Some(Ending::Refused(Refusal::TooLong))));
     let mut options = Options::at(&[1, 2], 3, &mut []);
+    assert_eq!(options.next(), Some(Err(Refusal::PastEnd)));
     assert_eq!((options.next(), options.ending()), (None, Some(Ending::Refused(Refusal::PastEnd))));
     assert_eq!(options.place(), 3);
     let mut options = Options::at(&[1, 2], 2, &mut []);
@@ -132,7 +187,7 @@ fn refused_walks_stay_where_they_are() {
 fn options_are_read() {
     let area = [19, 1, 2, 12, 1, 97, 12, 1, 98];
     let mut join = [0; 2];
-    let all: Vec<Opt> = Options::new(&area, &mut join).collect();
+    let all: Vec<Opt> = Options::new(&area, &mut join).collect::<Result<_, _>>().unwrap();
     assert_eq!((all[0].read(), all[0].read_strict()), (Ok(Value::YesNo(false)), Err(Refusal::UnclearYesNo)));
     assert_eq!((all[1].read(), all[1].read_strict()), (Ok(Value::Text("ab")), Ok(Value::Text("ab"))));
 }

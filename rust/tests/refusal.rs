@@ -1,7 +1,7 @@
 //! The refusals by their numbers.
 
 use sindovaleph::Refusal::{self, *};
-use sindovaleph::RowRefused;
+use sindovaleph::{Kind, NoSuchNumber, RowRefused, Stop};
 use std::collections::BTreeSet;
 use std::error::Error;
 
@@ -29,6 +29,20 @@ fn numbers_are_1_to_14() {
         assert_eq!(Refusal::from_number(number), Some(refusal));
     }
     assert_eq!((0..=255).filter_map(Refusal::from_number).collect::<Vec<_>>(), ALL);
+}
+
+#[test]
+fn numbers_can_be_tried() {
+    assert_eq!((Refusal::try_from(3), Refusal::try_from(0)), (Ok(ChaddrPastEnd), Err(NoSuchNumber(0))));
+    assert_eq!((Stop::try_from(2), Stop::try_from(6)), (Ok(Stop::End), Err(NoSuchNumber(6))));
+    assert_eq!((Kind::try_from(10), Kind::try_from(16)), (Ok(Kind::Text), Err(NoSuchNumber(16))));
+    for number in 0..=255 {
+        assert_eq!(Refusal::try_from(number).ok(), Refusal::from_number(number));
+        assert_eq!(Stop::try_from(number).ok(), Stop::from_number(number));
+        assert_eq!(Kind::try_from(number).ok(), Kind::from_number(number));
+    }
+    let error: Box<dyn Error> = Box::new(NoSuchNumber(16));
+    assert_eq!(error.to_string(), "nothing has the number 16");
 }
 
 #[test]

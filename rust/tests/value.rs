@@ -1,6 +1,7 @@
 //! Typed values, by document 01's table of kinds.
 
-use sindovaleph::{Element, Elements, Kind, List, NodeType, Refusal, Value, element, kind_of, read, read_strict};
+use sindovaleph::value::Element;
+use sindovaleph::{Elements, Kind, List, NodeType, Refusal, Value, kind_of, read, read_strict};
 use std::net::Ipv4Addr;
 
 /// Each kind with the first and the last code of its ranges, as document 01 has them.
@@ -62,6 +63,7 @@ fn codes_like(value: &Value) -> Vec<u8> {
         Value::MessageType(_) => Kind::MessageType,
         Value::ThreeBytes(_) => Kind::ThreeBytes,
         Value::Flag => Kind::Flag,
+        other => panic!("{other:?} has no kind here"),
     };
     (0..=255).filter(|&code| kind_of(code) == kind).collect()
 }
@@ -76,7 +78,7 @@ fn every_code_reads_as_its_kind() {
             Kind::U16 => 2,
             Kind::ThreeBytes => 3,
             Kind::Flag => 0,
-            Kind::Raw | Kind::Text | Kind::Codes | Kind::Addresses | Kind::Pairs | Kind::U16s => 8,
+            _ => 8,
         };
         let value = read(code, &bytes[..length]).unwrap();
         assert!(codes_like(&value).contains(&code), "code {code} reads as {value:?}");
@@ -139,39 +141,39 @@ fn refusals() {
     }
 }
 
-#[test]
-fn lists() {
-    let bytes = [1, 2, 3, 4, 5, 6, 7, 8, 9, 10, 11, 12, 13, 14, 15, 16];
-    let Ok(Value::Addresses(list)) = read(6, &bytes[..12]) else { panic!("6 is a list of addresses") };
-    assert_eq!((list.len(), list.is_empty()), (3, false));
-    assert_eq!(list.get(1), Ok(Element::Address(address(5, 6, 7, 8))));
-    assert_eq!((list.get(3), list.get(usize::MAX)), (Err(Refusal::PastEnd), Err(Refusal::PastEnd)));
-    let elements: Elements = list.iter();
-    let all: Vec<Element> = elements.collect();
-    let expected = [address(1, 2, 3, 4), address(5, 6, 7, 8), address(9, 10, 11, 12)].map(Element::Address);
-    assert_eq!((all.as_slice(), list.iter().size_hint()), (&expected[..], (3, Some(3))));
-
-    let Ok(Value::Pairs(list)) = read_strict(33, &bytes) else { panic!("33 is a list of pairs") };
-    let all: Vec<Element> = list.into_iter().collect();
-    for (element, index) in (&list).into_iter().zip(0..) {
-        assert_eq!(list.get(index), Ok(element));
-    }
-    let pair = Element::Pair(address(9, 10, 11, 12), address(13, 14, 15, 16));
-    assert_eq!((all.len(), list.get(1), all[1]), (2, Ok(pair), pair));
-
-    let Ok(Value::U16s(list)) = read(25, &bytes[..4]) else { panic!("25 is a list of numbers") };
-    assert_eq!(list.iter().collect::<Vec<_>>(), [Element::U16(0x0102), Element::U16(0x0304)]);
-
-    let Ok(Value::U16s(empty)) = read(25, &[]) else { panic!("an empty list is one too") };
-    let list: List = empty;
-    assert_eq!((list.len(), list.is_empty(), list.iter().next()), (0, true, None));
+/// What a list gives, asked in every way.
+fn all_of<E: Element + PartialEq + std::fmt::Debug>(list: List<'_, E>) -> Vec<E> {
+    let elements: Elements<'_, E> = list.iter();
+    assert_eq!((elements.len(), list.is_empty()), (list.len(), list.len() == 0));
+    let all: Vec<E> = elements.collect();
+    assert_eq!(all.len(), list.len());
+    assert_eq!((0..list.len()).map(|index| list.get(index)).collect::<Result<Vec<E>, _>>().as_ref(), Ok(&all));
+    assert_eq!((list.get(list.len()), list.get(usize::MAX)), (Err(Refusal::PastEnd), Err(Refusal::PastEnd)));
+    assert_eq!(
+        (list.into_iter().collect::<Vec<_>>(), (&list).into_iter().collect::<Vec<_>>()),
+        (all.clone(), all.clone())
+    );
+    all
 }
 
 #[test]
-fn elements_of_a_value() {
-    assert_eq!(element(55, &[1, 66], 1), Ok(Element::Code(66)));
-    assert_eq!(element(3, &[1, 2, 3, 4], 0), Ok(Element::Address(address(1, 2, 3, 4))));
-    assert_eq!(element(55, &[1, 66], 2), Err(Refusal::PastEnd));
-    assert_eq!(element(51, &[1, 2, 3, 4], 0), Err(Refusal::PastEnd));
-    assert_eq!(element(3, &[1, 2, 3], 0), Err(Refusal::WrongLength));
+fn lists_give_their_elements() {
+    let bytes = [1, 2, 3, 4, 5, 6, 7, 8, 9, 10, 11, 12, 13, 14, 15, 16];
+    let Ok(Value::Addresses(list)) = read(6, &bytes[..12]) else { panic!("6 is a list of addresses") };
+    assert_eq!(all_of(list), [address(1, 2, 3, 4), address(5, 6, 7, 8), address(9, 10, 11, 12)]);
+    let Ok(Value::Pairs(list)) = read_strict(33, &bytes) else { panic!("33 is a list of pairs") };
+    let first = (address(1, 2, 3, 4), address(5, 6, 7, 8));
+    assert_eq!(all_of(list), [first, (address(9, 10, 11, 12), address(13, 14, 15, 16))]);
+    let Ok(Value::U16s(list)) = read(25, &bytes[..4]) else { panic!("25 is a list of numbers") };
+    assert_eq!(all_of(list), [0x0102, 0x0304]);
+    let Ok(Value::U16s(list)) = read(25, &[]) else { panic!("an empty list is one too") };
+    assert_eq!(all_of(list), []);
+}
+
+#[test]
+fn lists_are_alike_where_their_elements_are() {
+    let bytes = [1, 2, 3, 4, 5, 6, 7, 8];
+    assert_eq!(read(3, &bytes), read(6, &bytes));
+    assert_ne!(read(3, &bytes), read(3, &bytes[..4]));
+    assert_ne!(read(3, &bytes), read(33, &bytes));
 }

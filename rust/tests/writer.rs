@@ -2,7 +2,7 @@
 
 mod common;
 
-use sindovaleph::{Message, NodeType, Options, Refusal, Route, RowRefused, Value, WriteRow, Writer};
+use sindovaleph::{Message, NodeType, Options, Refusal, Route, RowRefused, Value, WriteRow, Writer, calls};
 use std::net::Ipv4Addr;
 
 type Write = dyn Fn(&mut Writer) -> Result<(), Refusal>;
@@ -11,7 +11,7 @@ const ADDRESS: Ipv4Addr = Ipv4Addr::new(192, 0, 2, 1);
 
 /// Each writer with what it writes.
 fn writes() -> Vec<(Box<Write>, Vec<u8>)> {
-    let pair = [0xC000_0201, 0xC000_0202];
+    let pair = [ADDRESS, Ipv4Addr::new(192, 0, 2, 2)];
     let route = Route::new(8, Ipv4Addr::new(10, 0, 0, 0), ADDRESS);
     vec![
         (Box::new(|writer| writer.bytes(200, &[1, 2])), vec![200, 2, 1, 2]),
@@ -27,7 +27,7 @@ fn writes() -> Vec<(Box<Write>, Vec<u8>)> {
         (Box::new(|writer| writer.three_bytes(94, [1, 2, 3])), vec![94, 3, 1, 2, 3]),
         (Box::new(|writer| writer.flag(80)), vec![80, 0]),
         (Box::new(move |writer| writer.addresses(6, &pair)), vec![6, 8, 192, 0, 2, 1, 192, 0, 2, 2]),
-        (Box::new(move |writer| writer.pairs(33, &pair)), vec![33, 8, 192, 0, 2, 1, 192, 0, 2, 2]),
+        (Box::new(move |writer| writer.pairs(33, &[(pair[0], pair[1])])), vec![33, 8, 192, 0, 2, 1, 192, 0, 2, 2]),
         (Box::new(|writer| writer.u16s(25, &[68, 296])), vec![25, 4, 0, 68, 1, 40]),
         (Box::new(|writer| writer.codes(55, &[1, 3, 6])), vec![55, 3, 1, 3, 6]),
         (Box::new(move |writer| writer.routes(&[route])), vec![121, 6, 8, 10, 192, 0, 2, 1]),
@@ -81,8 +81,8 @@ fn typed_writers_take_a_code_of_their_kind() {
     refused(writer.message_type(52, 1));
     refused(writer.three_bytes(53, [1, 2, 3]));
     refused(writer.flag(53));
-    refused(writer.addresses(53, &[1]));
-    refused(writer.pairs(53, &[1, 2]));
+    refused(writer.addresses(53, &[ADDRESS]));
+    refused(writer.pairs(53, &[(ADDRESS, ADDRESS)]));
     refused(writer.u16s(53, &[1]));
     refused(writer.codes(53, &[1]));
     assert_eq!(writer.place(), 0);
@@ -96,10 +96,14 @@ fn what_else_is_refused() {
     assert_eq!(writer.bytes(0, &[1]), Err(Refusal::NoSuchCode));
     assert_eq!(writer.bytes(255, &[]), Err(Refusal::NoSuchCode));
     assert_eq!(writer.bytes(43, &[1; 4081]), Err(Refusal::ValueTooLong));
-    assert_eq!(writer.pairs(33, &[1, 2, 3]), Err(Refusal::OddPairs));
     assert_eq!(writer.routes(&[Route::new(33, ADDRESS, ADDRESS)]), Err(Refusal::WidthAbove32));
-    assert_eq!(writer.addresses(3, &[1; 1021]), Err(Refusal::ValueTooLong));
+    for count in [1021, 1022, 5000] {
+        assert_eq!(writer.addresses(3, &vec![ADDRESS; count]), Err(Refusal::ValueTooLong));
+        assert_eq!(writer.pairs(33, &vec![(ADDRESS, ADDRESS); count / 2 + 1]), Err(Refusal::ValueTooLong));
+    }
     assert_eq!((writer.place(), writer.written()), (0, &[][..]));
+    // Numbers of `calls` can be odd; pairs cannot.
+    assert_eq!(calls::write_pairs(&mut room, 0, 33, &[1, 2, 3]), calls::Written { refused: 13, place: 0 });
 }
 
 #[test]
@@ -110,7 +114,19 @@ fn long_values_are_written_in_parts() {
         assert_eq!((writer.bytes(43, &vec![7; len]), writer.place()), (Ok(()), takes));
     }
     let mut writer = Writer::new(&mut room);
-    assert_eq!((writer.addresses(3, &[7; 127]), writer.place()), (Ok(()), 514));
+    assert_eq!((writer.addresses(3, &[ADDRESS; 127]), writer.place()), (Ok(()), 514));
+    let all: Vec<Ipv4Addr> = (0..1020).map(Ipv4Addr::from_bits).collect();
+    let mut writer = Writer::new(&mut room);
+    assert_eq!((writer.addresses(3, &all), writer.place()), (Ok(()), 4080 + 2 * 17));
+    let mut join = [0; 4080];
+    let opt = Options::new(writer.written(), &mut join).next().unwrap().unwrap();
+    assert!(matches!(opt.read(), Ok(Value::Addresses(list)) if list.iter().eq(all.iter().copied())));
+    let pairs: Vec<_> = all.chunks(2).map(|pair| (pair[0], pair[1])).collect();
+    let mut writer = Writer::new(&mut room);
+    assert_eq!((writer.pairs(33, &pairs), writer.place()), (Ok(()), 4080 + 2 * 17));
+    let opt = Options::new(writer.written(), &mut join).next().unwrap().unwrap();
+    assert!(matches!(opt.read(), Ok(Value::Pairs(list)) if list.iter().eq(pairs.iter().copied())));
+    let mut writer = Writer::at(&mut room, 514);
     assert_eq!((writer.addresses(3, &[]), writer.u16s(25, &[]), writer.place()), (Ok(()), Ok(()), 514));
 }
 
@@ -154,7 +170,6 @@ fn a_refused_row_is_named_and_nothing_is_written() {
         (WriteRow::new(43, usize::MAX, usize::MAX), Refusal::PastEnd),
         (WriteRow::new(0, 0, 1), Refusal::NoSuchCode),
         (WriteRow::new(255, 0, 0), Refusal::NoSuchCode),
-        (WriteRow { code: 256 + 43, start: 0, len: 1 }, Refusal::NoSuchCode),
         (WriteRow::new(43, 0, 4_081), Refusal::ValueTooLong),
         (WriteRow::new(43, 0, 300), Refusal::NoRoom),
         // What comes first is told.
@@ -227,13 +242,13 @@ fn what_is_written_is_read() {
     writer.close().unwrap();
     let bytes = writer.written().to_vec();
     let message = Message::new(&bytes).unwrap();
-    let read: Vec<_> = message.opts(&mut []).map(|opt| opt.read_strict().unwrap()).collect();
+    let read: Vec<_> = message.opts(&mut []).map(|opt| opt.unwrap().read_strict().unwrap()).collect();
     let node = Value::NodeType(NodeType::Unknown(3));
     assert_eq!(read, [Value::MessageType(2), Value::Text("hôte"), Value::YesNo(false), Value::I32(i32::MIN), node]);
     let mut join = [0; 300];
     let mut room = [0; 400];
     let mut writer = Writer::new(&mut room);
     writer.bytes(43, &[7; 300]).unwrap();
-    let opt = Options::new(writer.written(), &mut join).next().unwrap();
+    let opt = Options::new(writer.written(), &mut join).next().unwrap().unwrap();
     assert_eq!((opt.code(), opt.parts(), opt.data()), (43, 2, &[7; 300][..]));
 }
