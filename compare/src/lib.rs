@@ -9,6 +9,8 @@ pub mod findings;
 pub mod known;
 pub mod lent;
 pub mod listing;
+#[cfg(test)]
+mod name_tests;
 pub mod paper;
 pub mod progress;
 pub mod random;

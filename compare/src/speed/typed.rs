@@ -116,6 +116,7 @@ impl Side for Safe {
     fn run(&mut self, sink: &mut impl Sink) {
         let Ok(message) = sindovaleph::Message::new(black_box(&self.message)) else { return };
         for option in message.opts(&mut self.join) {
+            let Ok(option) = option else { return };
             let (code, value) = (option.code(), option.data());
             sink.number(code);
             let reading = black_box(option.read());

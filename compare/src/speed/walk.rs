@@ -104,6 +104,7 @@ impl Side for Safe {
     fn run(&mut self, sink: &mut impl Sink) {
         if let Ok(message) = sindovaleph::Message::new(black_box(&self.message)) {
             for option in message.opts(&mut self.join) {
+                let Ok(option) = option else { return };
                 sink.number(option.code());
                 sink.bytes(option.data());
             }

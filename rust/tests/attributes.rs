@@ -1,0 +1,101 @@
+//! What the compiler tells a user: a `match` needs a `_` where later versions may add cases, and an answer that matters is
+//! not dropped without a warning. Both are held when this file is compiled: a `_` that no case needs is an error here, and
+//! so is a warning that does not come.
+#![deny(unreachable_patterns, unfulfilled_lint_expectations)]
+
+use sindovaleph::{Ending, Kind, Listed, Message, Options, Refusal, Row, Stop, Value, Writer, codes, list, read};
+
+fn is_known(refusal: Refusal) -> bool {
+    use Refusal::*;
+    match refusal {
+        MessageTooShort | TooLong | ChaddrPastEnd | PastEnd | JoinTooShort | NoSuchCode | ValueTooLong => true,
+        NoRoom | OtherKind | WrongLength | NotUtf8 | WidthAbove32 | OddPairs | UnclearYesNo => true,
+        _ => false,
+    }
+}
+
+fn is_known_stop(stop: Stop) -> bool {
+    match stop {
+        Stop::Out | Stop::End | Stop::CutLength | Stop::CutValue | Stop::CutContinuation => true,
+        _ => false,
+    }
+}
+
+fn is_known_kind(kind: Kind) -> bool {
+    use Kind::*;
+    match kind {
+        Raw | Address | Addresses | Pairs | Byte | YesNo | U16 | U16s | U32 | I32 | Text | Codes => true,
+        NodeType | MessageType | ThreeBytes | Flag => true,
+        _ => false,
+    }
+}
+
+fn is_known_value(value: Value<'_>) -> bool {
+    use Value::*;
+    match value {
+        Raw(_) | Address(_) | Addresses(_) | Pairs(_) | Byte(_) | YesNo(_) | U16(_) | U16s(_) | U32(_) | I32(_) => true,
+        Text(_) | Codes(_) | NodeType(_) | MessageType(_) | ThreeBytes(_) | Flag => true,
+        _ => false,
+    }
+}
+
+fn is_known_ending(ending: Ending) -> bool {
+    match ending {
+        Ending::Stopped(_) | Ending::Refused(_) | Ending::Needs(_) => true,
+        _ => false,
+    }
+}
+
+#[test]
+fn a_match_needs_a_case_for_what_may_come() {
+    assert!((0..=255).filter_map(Refusal::from_number).all(is_known));
+    assert!((0..=255).filter_map(Stop::from_number).all(is_known_stop));
+    assert!((0..=255).filter_map(Kind::from_number).all(is_known_kind));
+    assert!((1..=254).filter_map(|code| read(code, &[]).ok()).all(is_known_value));
+    assert!(is_known_ending(Ending::Needs(1)));
+}
+
+/// What is dropped here is warned about.
+#[expect(unused_must_use)]
+fn drops_a_listing(area: &[u8], rows: &mut [Row]) -> Result<(), Refusal> {
+    list(area, 0, rows)?;
+    Ok(())
+}
+
+#[expect(unused_must_use)]
+fn drops_a_walk(area: &[u8]) {
+    Options::new(area, &mut []);
+}
+
+#[expect(unused_must_use)]
+fn drops_an_ending(options: &Options<'_>) {
+    options.ending();
+}
+
+#[expect(unused_must_use)]
+fn drops_whether_it_is_closed(options: &Options<'_>) {
+    options.is_closed();
+}
+
+#[expect(unused_must_use)]
+fn drops_what_is_refused(writer: &mut Writer<'_>) {
+    writer.text(codes::HOSTNAME, "host");
+}
+
+#[expect(unused_must_use)]
+fn drops_the_area(message: &Message<'_>) {
+    message.area();
+}
+
+#[test]
+fn an_answer_that_matters_is_not_dropped_unseen() {
+    let mut rows = [Row::default()];
+    assert_eq!(drops_a_listing(&[255], &mut rows), Ok(()));
+    drops_a_walk(&[255]);
+    drops_an_ending(&Options::new(&[255], &mut []));
+    drops_whether_it_is_closed(&Options::new(&[255], &mut []));
+    drops_what_is_refused(&mut Writer::new(&mut [0; 9]));
+    drops_the_area(&Message::new(&[0; 240]).unwrap());
+    let listed: Listed = list(&[255], 0, &mut rows).unwrap();
+    assert_eq!(listed.stop, Some(Stop::End));
+}
