@@ -62,7 +62,9 @@ impl Ending {
         }
     }
 
-    /// The ending that crossed as a step with a refusal or a stop.
+    /// The ending that crossed as a step with a refusal or a stop. It is no method of the walk, which so can be kept in
+    /// registers.
+    #[cold]
     fn of(refused: u8, stop: u8, len: usize) -> Ending {
         match (Refusal::from_number(refused), Stop::from_number(stop)) {
             (Some(Refusal::JoinTooShort), _) => Ending::Needs(len),
@@ -145,15 +147,6 @@ impl<'a> Options<'a> {
         self.join = left;
         value
     }
-
-    /// Keeps why the walk ended, and gives a refusal where it is a new one: a refused walk stands where it stood, and
-    /// would be refused again and again.
-    #[cold]
-    fn ended(&mut self, ending: Ending) -> Option<Refusal> {
-        let refused_before = self.ending.and_then(Ending::refusal).is_some();
-        self.ending = Some(ending);
-        ending.refusal().filter(|_| !refused_before)
-    }
 }
 
 impl<'a> Iterator for Options<'a> {
@@ -164,7 +157,11 @@ impl<'a> Iterator for Options<'a> {
         let step = calls::step(self.area, self.place, self.join);
         self.place = step.place;
         if step.refused | step.stop != 0 {
-            return self.ended(Ending::of(step.refused, step.stop, step.len)).map(Err);
+            // A refused walk stands where it stood, and would be refused again and again: it is told once.
+            let told = self.ending.and_then(Ending::refusal);
+            let ending = Ending::of(step.refused, step.stop, step.len);
+            self.ending = Some(ending);
+            return if told.is_none() { ending.refusal().map(Err) } else { None };
         }
         let data = if step.parts == 1 { before(self.area, step.place, step.len) } else { Some(self.joined(step.len)) };
         Some(Ok(Opt { data: data.unwrap_or(&[]), parts: step.parts, place: step.place, code: step.code }))
