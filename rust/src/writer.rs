@@ -10,7 +10,13 @@ use core::fmt;
 use core::net::Ipv4Addr;
 
 /// The most addresses that a value has: 4,080 bytes.
-const MOST_ADDRESSES: usize = 1_020;
+const MOST: usize = 1_020;
+
+/// As many as are laid out in passing.
+const FEW: usize = 16;
+
+/// A call that writes a list of addresses.
+type WriteNumbers = fn(&mut [u8], usize, u8, &[u32]) -> Written;
 
 /// Writes options into a lent room, one behind the other.
 ///
@@ -137,21 +143,15 @@ impl<'a> Writer<'a> {
     /// Addresses.
     #[inline]
     pub fn addresses(&mut self, code: u8, addresses: &[Ipv4Addr]) -> Result<(), Refusal> {
-        // With one more than the most that are written, whatever is longer is refused as this is.
-        let mut numbers = [0; MOST_ADDRESSES + 1];
-        let numbers = filled(&mut numbers, addresses.iter().copied());
-        let written = calls::write_addresses(self.room, self.place, code, numbers);
-        self.moved(written)
+        let all = addresses.iter().copied();
+        self.numbers(calls::write_addresses, code, addresses.len(), all)
     }
 
     /// Pairs of addresses: an address and its mask, or a destination and its router.
     #[inline]
     pub fn pairs(&mut self, code: u8, pairs: &[(Ipv4Addr, Ipv4Addr)]) -> Result<(), Refusal> {
-        // A pair more than is written.
-        let mut numbers = [0; MOST_ADDRESSES + 2];
-        let numbers = filled(&mut numbers, pairs.iter().flat_map(|&(first, second)| [first, second]));
-        let written = calls::write_pairs(self.room, self.place, code, numbers);
-        self.moved(written)
+        let all = pairs.iter().flat_map(|&(first, second)| [first, second]);
+        self.numbers(calls::write_pairs, code, pairs.len().saturating_mul(2), all)
     }
 
     /// Numbers of two bytes.
@@ -214,6 +214,35 @@ impl<'a> Writer<'a> {
         self.moved(written)
     }
 
+    /// Addresses as the numbers that cross: few of them, as in most options.
+    #[inline]
+    fn numbers(
+        &mut self,
+        write: WriteNumbers,
+        code: u8,
+        count: usize,
+        addresses: impl Iterator<Item = Ipv4Addr>,
+    ) -> Result<(), Refusal> {
+        if count > FEW {
+            return self.many_numbers(write, code, addresses);
+        }
+        let written = write(self.room, self.place, code, filled(&mut [0; FEW], addresses));
+        self.moved(written)
+    }
+
+    /// The same of many. There is room for a pair more than a value has, which the library refuses; so what is longer and
+    /// left out here is refused too.
+    #[cold]
+    fn many_numbers(
+        &mut self,
+        write: WriteNumbers,
+        code: u8,
+        addresses: impl Iterator<Item = Ipv4Addr>,
+    ) -> Result<(), Refusal> {
+        let written = write(self.room, self.place, code, filled(&mut [0; MOST + 2], addresses));
+        self.moved(written)
+    }
+
     /// Goes on behind what was written. A refusal answers the old place.
     #[inline]
     fn moved(&mut self, written: Written) -> Result<(), Refusal> {
@@ -228,10 +257,10 @@ impl fmt::Debug for Writer<'_> {
     }
 }
 
-/// Addresses as the numbers that cross, as many as there is room for.
+/// Addresses as numbers, as many as there is room for.
+#[inline]
 fn filled(numbers: &mut [u32], addresses: impl Iterator<Item = Ipv4Addr>) -> &[u32] {
-    let pairs = numbers.iter_mut().zip(addresses);
-    let count = pairs.map(|(number, address)| *number = address.to_bits()).count();
+    let count = numbers.iter_mut().zip(addresses).map(|(number, address)| *number = address.to_bits()).count();
     numbers.get(..count).unwrap_or(&[])
 }
 

@@ -115,19 +115,28 @@ fn long_values_are_written_in_parts() {
     }
     let mut writer = Writer::new(&mut room);
     assert_eq!((writer.addresses(3, &[ADDRESS; 127]), writer.place()), (Ok(()), 514));
-    let all: Vec<Ipv4Addr> = (0..1020).map(Ipv4Addr::from_bits).collect();
-    let mut writer = Writer::new(&mut room);
-    assert_eq!((writer.addresses(3, &all), writer.place()), (Ok(()), 4080 + 2 * 17));
-    let mut join = [0; 4080];
-    let opt = Options::new(writer.written(), &mut join).next().unwrap().unwrap();
-    assert!(matches!(opt.read(), Ok(Value::Addresses(list)) if list.iter().eq(all.iter().copied())));
-    let pairs: Vec<_> = all.chunks(2).map(|pair| (pair[0], pair[1])).collect();
-    let mut writer = Writer::new(&mut room);
-    assert_eq!((writer.pairs(33, &pairs), writer.place()), (Ok(()), 4080 + 2 * 17));
-    let opt = Options::new(writer.written(), &mut join).next().unwrap().unwrap();
-    assert!(matches!(opt.read(), Ok(Value::Pairs(list)) if list.iter().eq(pairs.iter().copied())));
-    let mut writer = Writer::at(&mut room, 514);
     assert_eq!((writer.addresses(3, &[]), writer.u16s(25, &[]), writer.place()), (Ok(()), Ok(()), 514));
+}
+
+#[test]
+fn addresses_and_pairs_are_written_as_their_numbers() {
+    let numbers: Vec<u32> = (0..1030_u32).map(|i| i.wrapping_mul(0x0101_0101)).collect();
+    let addresses: Vec<Ipv4Addr> = numbers.iter().copied().map(Ipv4Addr::from_bits).collect();
+    let pairs: Vec<_> = addresses.chunks(2).map(|pair| (pair[0], pair[1])).collect();
+    // The longest value takes 4,080 bytes and 17 heads.
+    for (count, room) in (0..=1030).flat_map(|count| [(count, 3 + 4114), (count, 600)]) {
+        let (mut ours, mut theirs) = (vec![9; room], vec![9; room]);
+        let mut writer = Writer::at(&mut ours, 3);
+        let answer = writer.addresses(3, &addresses[..count]).map_err(Refusal::number).err().unwrap_or(0);
+        let written = calls::write_addresses(&mut theirs, 3, 3, &numbers[..count]);
+        assert_eq!((answer, writer.place()), (written.refused, written.place), "{count} addresses");
+        let even = count / 2 * 2;
+        let mut writer = Writer::at(&mut ours, written.place);
+        let answer = writer.pairs(33, &pairs[..count / 2]).map_err(Refusal::number).err().unwrap_or(0);
+        let written = calls::write_pairs(&mut theirs, written.place, 33, &numbers[..even]);
+        assert_eq!((answer, writer.place()), (written.refused, written.place), "{even} addresses in pairs");
+        assert_eq!(ours, theirs, "{count}");
+    }
 }
 
 /// Options of 4, 0, 5 and 262 bytes out of values of 5,000.
