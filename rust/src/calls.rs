@@ -188,7 +188,7 @@ pub struct WrittenRows {
 
 /// A row of the table of classless routes.
 #[repr(C)]
-#[derive(Clone, Copy, Debug, PartialEq, Eq)]
+#[derive(Clone, Copy, PartialEq, Eq)]
 pub struct Route {
     /// How many bits the mask has, 0 to 32.
     pub width: u8,

@@ -291,3 +291,11 @@ impl Route {
         Route { width, destination: destination.to_bits(), gateway: gateway.to_bits() }
     }
 }
+
+impl fmt::Debug for Route {
+    fn fmt(&self, f: &mut fmt::Formatter<'_>) -> fmt::Result {
+        let mut shown = f.debug_struct("Route");
+        shown.field("width", &self.width).field("destination", &Ipv4Addr::from_bits(self.destination));
+        shown.field("gateway", &Ipv4Addr::from_bits(self.gateway)).finish()
+    }
+}

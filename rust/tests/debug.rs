@@ -3,7 +3,8 @@
 mod common;
 
 use common::message_with;
-use sindovaleph::{Message, Options, ReadRow, Row, WriteRow, Writer, list, read, read_list};
+use sindovaleph::{Message, Options, ReadRow, Route, Row, WriteRow, Writer, list, read, read_list};
+use std::net::Ipv4Addr;
 
 #[test]
 fn a_message_is_shown_by_its_fields() {
@@ -62,5 +63,7 @@ fn rows_and_writers_are_shown_by_their_numbers() {
     let refused = "ReadRow { code: 51 (ADDRESS_LEASE_TIME), parts: 1, len: 2, place: 8, refused: WrongLength }";
     assert_eq!(format!("{:?}", rows[1]), refused);
     assert_eq!(format!("{:?}", WriteRow::new(53, 0, 1)), "WriteRow { code: 53 (MESSAGE_TYPE), start: 0, len: 1 }");
+    let route = Route::new(8, Ipv4Addr::new(10, 0, 0, 0), Ipv4Addr::new(192, 0, 2, 1));
+    assert_eq!(format!("{route:?}"), "Route { width: 8, destination: 10.0.0.0, gateway: 192.0.2.1 }");
     assert_eq!(format!("{:?}", Writer::at(&mut [0; 9], 3)), "Writer { room: 9 bytes, place: 3 }");
 }
