@@ -51,14 +51,15 @@ find_x86_runner() {
             [ -z "$x86_words" ] || export CARGO_TARGET_X86_64_UNKNOWN_LINUX_GNU_RUNNER="$x86_words"
             return
         fi
-        x86_what="an emulator that runs what Rust builds, which ${x86_words:-the kernel} does not,"
+        [ -n "$x86_words" ] || continue
+        x86_what="an emulator that runs what Rust builds, which $x86_words does not,"
         x86_packages="libc6-amd64-cross and another release of qemu-user"
     done
     x86_lacks "$x86_what" "$x86_packages" one RUNNER
 }
 
-# An emulator that is installed, and what leads it to the C library: the linker's, else the usual one. Its folder has the loader at the
-# place where programs look for it. The kernel, which has no name, looks there itself.
+# An emulator that is installed, and what leads it to the C library: the linker's, else the usual one. Its folder has the loader
+# at the place where programs look for it. The kernel, which has no name, looks there itself.
 x86_with_library() {
     if [ -z "$1" ]; then
         [ -e /lib64/ld-linux-x86-64.so.2 ]

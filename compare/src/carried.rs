@@ -1,4 +1,4 @@
-//! What a packet carries: a DHCP message over IPv4 and UDP, anything else, or what is or may be such a message and cannot be read, and why.
+//! What a packet carries: a DHCP message over IPv4 and UDP, or what is or may be one and cannot be read, and why, or anything else.
 
 use crate::capture::Packet;
 use std::net::Ipv4Addr;

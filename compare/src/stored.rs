@@ -51,8 +51,8 @@ fn open(path: &Path) -> Result<([u8; 4], BufReader<File>), String> {
     Ok(([first[0], first[1], first[2], first[3]], BufReader::new(file)))
 }
 
-/// What a file is that begins so, where that is known to be no file of messages: empty, packed by gzip, zstd, xz, bzip2 or lz4, or a
-/// capture of another kind, as which a patched pcap and snoop are known.
+/// What a file is that begins so, where that is known to hold no messages: empty; packed by gzip, zstd, xz, bzip2 or lz4; a capture
+/// of another kind, patched pcap or snoop.
 fn no_messages(first: &[u8]) -> Option<&'static str> {
     match first {
         [] => Some("is empty"),
