@@ -5,6 +5,7 @@
 compare_target=x86_64-unknown-linux-gnu
 compare_caller=$PWD
 compare_root=$(cd "$(dirname "$0")/.." && pwd) || exit 1
+. "$compare_root/tools/x86.sh"
 
 # Says a sentence on standard error, and ends.
 give_up() {
@@ -61,11 +62,12 @@ cargo_here() {
     CARGO_TARGET_DIR="$compare_root/target/compare" cargo "$subcommand" "$@"
 }
 
-# All that is needed before cargo.
+# All that is needed before cargo; first what may be missing, then the library, which takes minutes.
 prepare() {
     cd "$compare_root" || exit 1
     mkdir -p target
     need_rust
+    find_x86 || give_up "$x86_missing"
     make_library
     unpack_crates
 }

@@ -1,13 +1,13 @@
-//! Captures of packets: pcap in both byte orders, and pcapng. Only what carries DHCP over IPv4 is taken apart.
+//! Captures of packets: pcap and pcapng, each in both byte orders. What a packet carries is told in `carried`.
 
 use std::io::{self, Read};
-use std::net::Ipv4Addr;
 
 /// No packet and no block of a capture is larger.
 const MOST_BLOCK: usize = 1 << 26;
 
 const SECTION_HEADER: u32 = 0x0A0D_0D0A;
 const INTERFACE: u32 = 1;
+const OLD_PACKET: u32 = 2;
 const SIMPLE_PACKET: u32 = 3;
 const ENHANCED_PACKET: u32 = 6;
 
@@ -55,19 +55,29 @@ impl Order {
     }
 }
 
-/// One packet: the type of its link, and its bytes as far as they were captured.
+/// One packet.
 #[derive(Debug, PartialEq, Eq)]
 pub struct Packet {
-    pub link: u32,
+    /// The type of its link, where its interface is declared.
+    pub link: Option<u32>,
+    /// Its bytes, as far as they were captured.
     pub bytes: Vec<u8>,
+    /// Whether all of them were captured.
+    pub whole: bool,
+}
+
+/// An interface: the type of its link, and how many bytes of a packet are captured at most.
+struct Interface {
+    link: u32,
+    most: usize,
 }
 
 /// A capture that is being read.
 pub struct Capture<R> {
     input: R,
     order: Order,
-    /// The link types: of the whole pcap file, or of each interface of the pcapng section.
-    links: Vec<u32>,
+    /// The one interface of a pcap file, or each that the pcapng section has declared so far.
+    interfaces: Vec<Interface>,
     blocks: bool,
 }
 
@@ -108,13 +118,13 @@ impl<R: Read> Capture<R> {
     pub fn open(mut input: R) -> Result<Capture<R>, Trouble> {
         let first = take(&mut input, 4)?;
         let Some(order) = pcap_order([first[0], first[1], first[2], first[3]]) else {
-            let mut capture = Capture { input, order: Order::Big, links: Vec::new(), blocks: true };
+            let mut capture = Capture { input, order: Order::Big, interfaces: Vec::new(), blocks: true };
             capture.begin_section()?;
             return Ok(capture);
         };
         let header = take(&mut input, 20)?;
         let link = order.u32_at(&header, 16)? & 0xFFFF;
-        Ok(Capture { input, order, links: vec![link], blocks: false })
+        Ok(Capture { input, order, interfaces: vec![Interface { link, most: usize::MAX }], blocks: false })
     }
 
     /// The next packet, or nothing at the end.
@@ -131,7 +141,14 @@ impl<R: Read> Capture<R> {
         if len > MOST_BLOCK {
             return Err(Trouble::Damaged);
         }
-        Ok(Some(Packet { link: self.links[0], bytes: take(&mut self.input, len)? }))
+        let bytes = take(&mut self.input, len)?;
+        Ok(Some(self.packet(0, bytes, self.order.u32_at(&header, 12)?)))
+    }
+
+    /// A packet of an interface, of which so many bytes were on the wire.
+    fn packet(&self, interface: u32, bytes: Vec<u8>, on_wire: u32) -> Packet {
+        let link = self.interfaces.get(interface as usize).map(|interface| interface.link);
+        Packet { link, whole: bytes.len() >= on_wire as usize, bytes }
     }
 
     /// A section header whose type has been read: it says the byte order, and its interfaces are yet to come.
@@ -142,7 +159,7 @@ impl<R: Read> Capture<R> {
             [0x4D, 0x3C, 0x2B, 0x1A] => Order::Little,
             _ => return Err(Trouble::Damaged),
         };
-        self.links.clear();
+        self.interfaces.clear();
         let len = self.order.u32_at(&header, 0)? as usize;
         if !(28..=MOST_BLOCK).contains(&len) {
             return Err(Trouble::Damaged);
@@ -163,8 +180,9 @@ impl<R: Read> Capture<R> {
             }
             let body = self.block_body()?;
             match kind {
-                INTERFACE => self.links.push(self.order.u16_at(&body, 0)?),
-                ENHANCED_PACKET => return self.enhanced_packet(&body).map(Some),
+                INTERFACE => self.declare(&body)?,
+                OLD_PACKET => return self.long_packet(self.order.u16_at(&body, 0)?, &body).map(Some),
+                ENHANCED_PACKET => return self.long_packet(self.order.u32_at(&body, 0)?, &body).map(Some),
                 SIMPLE_PACKET => return self.simple_packet(&body).map(Some),
                 _ => (),
             }
@@ -183,89 +201,31 @@ impl<R: Read> Capture<R> {
         Ok(body)
     }
 
-    fn enhanced_packet(&self, body: &[u8]) -> Result<Packet, Trouble> {
-        let interface = self.order.u32_at(body, 0)? as usize;
+    /// An interface of the section; where it says 0 bytes at most there is no limit.
+    fn declare(&mut self, body: &[u8]) -> Result<(), Trouble> {
+        let link = self.order.u16_at(body, 0)?;
+        let most = self.order.u32_at(body, 4)? as usize;
+        self.interfaces.push(Interface { link, most: if most == 0 { usize::MAX } else { most } });
+        Ok(())
+    }
+
+    /// An enhanced packet, or one of the old type: these differ before their times, in how the interface is said.
+    fn long_packet(&self, interface: u32, body: &[u8]) -> Result<Packet, Trouble> {
         let len = self.order.u32_at(body, 12)? as usize;
-        let link = *self.links.get(interface).ok_or(Trouble::Damaged)?;
-        Ok(Packet { link, bytes: body.get(20..20 + len).ok_or(Trouble::Damaged)?.to_vec() })
+        let on_wire = self.order.u32_at(body, 16)?;
+        let bytes = body[20..].get(..len).ok_or(Trouble::Damaged)?;
+        Ok(self.packet(interface, bytes.to_vec(), on_wire))
     }
 
-    /// A packet of the first interface, of which only the original length is said.
+    /// A packet of the first interface, of which only the length on the wire is said. What fills the block is none of its bytes.
     fn simple_packet(&self, body: &[u8]) -> Result<Packet, Trouble> {
-        let len = self.order.u32_at(body, 0)? as usize;
-        let link = *self.links.first().ok_or(Trouble::Damaged)?;
-        Ok(Packet { link, bytes: body[4..].iter().take(len).copied().collect() })
-    }
-}
-
-/// What a packet carries.
-#[derive(Debug, PartialEq, Eq)]
-pub enum Carried<'a> {
-    /// A DHCP message, and the address that it came from.
-    Message(Ipv4Addr, &'a [u8]),
-    /// The first fragment of one.
-    Fragment,
-    /// One of which not all bytes were captured.
-    Cut,
-    /// A link of another type.
-    OtherLink,
-    /// Anything else.
-    Other,
-}
-
-fn u16_at(bytes: &[u8], at: usize) -> Option<u16> {
-    Some(u16::from_be_bytes([*bytes.get(at)?, *bytes.get(at + 1)?]))
-}
-
-/// What a packet carries.
-pub fn carried(packet: &Packet) -> Carried<'_> {
-    let bytes = packet.bytes.as_slice();
-    match packet.link {
-        1 => over_link(u16_at(bytes, 12), bytes.get(14..)),
-        113 => over_link(u16_at(bytes, 14), bytes.get(16..)),
-        276 => over_link(u16_at(bytes, 0), bytes.get(20..)),
-        12 | 14 | 101 | 228 => over_ip(bytes),
-        _ => Carried::OtherLink,
-    }
-}
-
-/// What stands behind a link's header, by its protocol. VLAN tags are passed.
-fn over_link(protocol: Option<u16>, rest: Option<&[u8]>) -> Carried<'_> {
-    match (protocol, rest) {
-        (Some(0x0800), Some(rest)) => over_ip(rest),
-        (Some(0x8100 | 0x88A8 | 0x9100), Some(rest)) => over_link(u16_at(rest, 2), rest.get(4..)),
-        _ => Carried::Other,
-    }
-}
-
-/// What an IPv4 packet carries.
-fn over_ip(bytes: &[u8]) -> Carried<'_> {
-    const UDP: u8 = 17;
-    if bytes.len() < 20 || bytes[0] >> 4 != 4 || bytes[9] != UDP {
-        return Carried::Other;
-    }
-    let header = usize::from(bytes[0] & 15) * 4;
-    let fragment = u16::from_be_bytes([bytes[6], bytes[7]]);
-    if fragment & 0x1FFF != 0 {
-        return Carried::Other;
-    }
-    let Some(udp) = bytes.get(header..).filter(|udp| udp.len() >= 8) else {
-        return Carried::Cut;
-    };
-    let ports = [u16_at(udp, 0), u16_at(udp, 2)];
-    if !ports.contains(&Some(67)) && !ports.contains(&Some(68)) {
-        return Carried::Other;
-    }
-    if fragment & 0x2000 != 0 {
-        return Carried::Fragment;
-    }
-    let source = Ipv4Addr::new(bytes[12], bytes[13], bytes[14], bytes[15]);
-    match udp.get(8..usize::from(u16::from_be_bytes([udp[4], udp[5]]))) {
-        Some(payload) => Carried::Message(source, payload),
-        None => Carried::Cut,
+        let on_wire = self.order.u32_at(body, 0)?;
+        let most = self.interfaces.first().map_or(usize::MAX, |interface| interface.most);
+        let bytes = body[4..].iter().take(most.min(on_wire as usize)).copied().collect();
+        Ok(self.packet(0, bytes, on_wire))
     }
 }
 
 #[cfg(test)]
 #[path = "capture_tests.rs"]
-mod tests;
+pub(crate) mod tests;

@@ -1,34 +1,17 @@
 //! Captures that are built byte by byte.
 
 use super::*;
-
-const PAYLOAD: [u8; 5] = [1, 2, 3, 4, 5];
-
-/// An IPv4 packet from 192.0.2.7 with these flags and ports.
-fn ip(flags: [u8; 2], ports: [u8; 4]) -> Vec<u8> {
-    let mut packet = vec![0x45, 0, 0, 33, 0, 1, flags[0], flags[1], 64, 17, 0, 0, 192, 0, 2, 7, 255, 255, 255, 255];
-    packet.extend(ports);
-    packet.extend([0, 13, 0, 0]);
-    packet.extend(PAYLOAD);
-    packet
-}
-
-fn dhcp() -> Vec<u8> {
-    ip([0, 0], [0, 68, 0, 67])
-}
-
-/// A packet in an Ethernet frame, behind so many VLAN tags, with bytes behind it that fill.
-fn ethernet(packet: &[u8], tags: usize) -> Vec<u8> {
-    let mut frame = vec![2; 12];
-    frame.extend([0x81, 0, 0, 9].repeat(tags));
-    frame.extend([8, 0]);
-    frame.extend(packet);
-    frame.extend([0; 6]);
-    frame
-}
+use crate::carried::tests::{dhcp, ethernet, is_message};
 
 fn number(order: Order, number: u32) -> [u8; 4] {
     if order == Order::Big { number.to_be_bytes() } else { number.to_le_bytes() }
+}
+
+/// Two numbers of two bytes.
+fn two_numbers(order: Order, first: u16, second: u16) -> [u8; 4] {
+    let bytes = |number: u16| if order == Order::Big { number.to_be_bytes() } else { number.to_le_bytes() };
+    let ([a, b], [c, d]) = (bytes(first), bytes(second));
+    [a, b, c, d]
 }
 
 fn pcap(order: Order, magic: u32, link: u32, packets: &[Vec<u8>]) -> Vec<u8> {
@@ -53,19 +36,43 @@ fn block(order: Order, kind: u32, body: &[u8]) -> Vec<u8> {
     [&number(order, kind)[..], &len, &padded, &len].concat()
 }
 
-/// A section with an interface of this link, an unknown block, an enhanced and a simple packet.
-fn section(order: Order, link: u16, packet: &[u8]) -> Vec<u8> {
-    let len = number(order, packet.len() as u32);
-    let link = number(order, u32::from(link) << if order == Order::Big { 16 } else { 0 });
-    let zero = [0; 4];
+/// The begin of a section, with an interface of this link that captures so many bytes at most.
+fn section_begin(order: Order, link: u16, most: u32) -> Vec<u8> {
+    let link = two_numbers(order, link, 0);
     [
         block(order, SECTION_HEADER, &[&number(order, 0x1A2B_3C4D)[..], &[0; 12]].concat()),
-        block(order, INTERFACE, &[link, zero].concat()),
-        block(order, 5, &[1, 2, 3]),
-        block(order, ENHANCED_PACKET, &[&zero[..], &zero, &zero, &len, &len, packet].concat()),
-        block(order, SIMPLE_PACKET, &[&len[..], packet].concat()),
+        block(order, INTERFACE, &[link, number(order, most)].concat()),
     ]
     .concat()
+}
+
+/// A packet that says its interface: enhanced, or of the old type, which has the count of lost packets beside it.
+fn long_packet(order: Order, kind: u32, interface: u16, packet: &[u8]) -> Vec<u8> {
+    let interface = if kind == OLD_PACKET { two_numbers(order, interface, 7) } else { number(order, interface.into()) };
+    let len = number(order, packet.len() as u32);
+    block(order, kind, &[&interface[..], &[0; 8], &len, &len, packet].concat())
+}
+
+/// A section with an unknown block, and the packet as enhanced, of the old type and simple.
+fn section(order: Order, link: u16, packet: &[u8]) -> Vec<u8> {
+    [
+        section_begin(order, link, 0),
+        block(order, 5, &[1, 2, 3]),
+        long_packet(order, ENHANCED_PACKET, 0, packet),
+        long_packet(order, OLD_PACKET, 0, packet),
+        block(order, SIMPLE_PACKET, &[&number(order, packet.len() as u32)[..], packet].concat()),
+    ]
+    .concat()
+}
+
+/// A section with packets over IP as they are given, between a packet of each type whose interface is not declared.
+pub(crate) fn section_of(packets: &[Vec<u8>]) -> Vec<u8> {
+    let order = Order::Little;
+    let mut file = section_begin(order, 101, 0);
+    file.extend(long_packet(order, OLD_PACKET, 1, &dhcp()));
+    file.extend(packets.iter().flat_map(|packet| long_packet(order, OLD_PACKET, 0, packet)));
+    file.extend(long_packet(order, ENHANCED_PACKET, 7, &dhcp()));
+    file
 }
 
 /// All packets of a capture.
@@ -80,9 +87,7 @@ fn packets(bytes: &[u8]) -> Result<Vec<Packet>, Trouble> {
 
 /// How many DHCP messages a capture has, all with the one payload.
 fn messages(bytes: &[u8]) -> usize {
-    let all = packets(bytes).unwrap();
-    let source = Ipv4Addr::new(192, 0, 2, 7);
-    all.iter().filter(|packet| carried(packet) == Carried::Message(source, &PAYLOAD)).count()
+    packets(bytes).unwrap().iter().filter(|packet| is_message(packet)).count()
 }
 
 #[test]
@@ -97,45 +102,41 @@ fn pcap_in_both_orders() {
 }
 
 #[test]
-fn other_links() {
-    let cooked = [&[0; 14][..], &[8, 0], &dhcp()].concat();
-    let cooked_2 = [&[8, 0][..], &[0; 18], &dhcp()].concat();
-    assert_eq!(messages(&pcap(Order::Little, 0xA1B2_C3D4, 113, &[cooked])), 1);
-    assert_eq!(messages(&pcap(Order::Little, 0xA1B2_C3D4, 276, &[cooked_2])), 1);
-    assert_eq!(messages(&pcap(Order::Little, 0xA1B2_C3D4, 101, &[dhcp()])), 1);
-    assert_eq!(carried(&Packet { link: 105, bytes: dhcp() }), Carried::OtherLink);
-}
-
-#[test]
 fn pcapng_in_both_orders() {
     let file = [section(Order::Big, 1, &ethernet(&dhcp(), 0)), section(Order::Little, 101, &dhcp())].concat();
     assert!(is_capture([file[0], file[1], file[2], file[3]]));
-    assert_eq!(messages(&file), 4);
+    assert_eq!(messages(&file), 6);
 }
 
 #[test]
-fn what_is_no_message() {
-    let carries = |bytes: Vec<u8>| {
-        let packet = Packet { link: 101, bytes };
-        match carried(&packet) {
-            Carried::Message(..) => "message",
-            Carried::Fragment => "fragment",
-            Carried::Cut => "cut",
-            Carried::OtherLink => "other link",
-            Carried::Other => "other",
-        }
+fn packets_of_interfaces_that_are_not_declared_are_told() {
+    let links = |file: &[u8]| packets(file).unwrap().iter().map(|packet| packet.link).collect::<Vec<_>>();
+    assert_eq!(links(&section_of(&[dhcp(), dhcp()])), [None, Some(101), Some(101), None]);
+    let next_section = section(Order::Big, 101, &dhcp());
+    let without = [&next_section[..28], &next_section[48..]].concat();
+    assert_eq!(links(&without), [None; 3]);
+    assert_eq!(links(&[next_section, without].concat()), [Some(101), Some(101), Some(101), None, None, None]);
+}
+
+#[test]
+fn what_was_captured_in_part_is_told() {
+    let cut = |file: &[u8]| {
+        packets(file).unwrap().iter().map(|packet| (packet.bytes.len(), packet.whole)).collect::<Vec<_>>()
     };
-    assert_eq!(carries(dhcp()), "message");
-    assert_eq!(carries(ip([0x20, 0], [0, 67, 0, 68])), "fragment");
-    assert_eq!(carries(ip([0x00, 9], [0, 67, 0, 68])), "other");
-    assert_eq!(carries(ip([0, 0], [0, 53, 0, 53])), "other");
-    for len in 20..33 {
-        assert_eq!(carries(dhcp()[..len].to_vec()), "cut");
-    }
-    assert_eq!(carries(Vec::new()), "other");
-    let mut tcp = dhcp();
-    tcp[9] = 6;
-    assert_eq!(carries(tcp), "other");
+    let mut file = pcap(Order::Little, 0xA1B2_C3D4, 101, &[dhcp(), dhcp()]);
+    file[24 + 12] += 1;
+    assert_eq!(cut(&file), [(33, false), (33, true)]);
+    let mut enhanced = long_packet(Order::Little, ENHANCED_PACKET, 0, &dhcp());
+    enhanced[8 + 16] += 1;
+    assert_eq!(cut(&[section_begin(Order::Little, 101, 0), enhanced].concat()), [(33, false)]);
+}
+
+#[test]
+fn what_fills_a_simple_packet_is_none_of_its_bytes() {
+    let packet = &dhcp()[..30];
+    let simple = block(Order::Big, SIMPLE_PACKET, &[&[0, 0, 0, 33][..], packet].concat());
+    let file = [section_begin(Order::Big, 101, 30), simple].concat();
+    assert_eq!(packets(&file).unwrap(), [Packet { link: Some(101), bytes: packet.to_vec(), whole: false }]);
 }
 
 #[test]

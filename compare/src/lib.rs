@@ -3,6 +3,7 @@
 
 pub mod agreement;
 pub mod capture;
+pub mod carried;
 pub mod cases;
 pub mod differences;
 pub mod findings;

@@ -1,6 +1,8 @@
 //! Stored messages: captures, framed messages, single messages; and what could not be read of a file, in words.
 
-use crate::capture::{self, Capture, Carried, Trouble};
+use crate::capture::{self, Capture, Trouble};
+use crate::carried::{Carried, Unread, carried};
+use std::collections::BTreeMap;
 use std::fs::File;
 use std::io::{self, BufReader, Read, Seek};
 use std::net::Ipv4Addr;
@@ -41,16 +43,29 @@ fn open(path: &Path) -> Result<([u8; 4], BufReader<File>), String> {
     let mut file = File::open(path).map_err(unreadable)?;
     let mut first = Vec::new();
     (&mut file).take(4).read_to_end(&mut first).map_err(unreadable)?;
-    match first[..] {
-        [] => return Err("is empty".to_string()),
-        [0x1F, 0x8B, ..] | [0x28, 0xB5, 0x2F, 0xFD] | [0xFD, b'7', b'z', b'X'] => {
-            return Err("is compressed: unpack it first".to_string());
-        }
-        _ => (),
+    if let Some(sentence) = no_messages(&first) {
+        return Err(sentence.to_string());
     }
     file.rewind().map_err(unreadable)?;
     first.resize(4, 0);
     Ok(([first[0], first[1], first[2], first[3]], BufReader::new(file)))
+}
+
+/// What a file is that begins so, where that is known to hold no messages: empty; packed by gzip, zstd, xz, bzip2 or lz4; a capture
+/// of another kind, patched pcap or snoop.
+fn no_messages(first: &[u8]) -> Option<&'static str> {
+    match first {
+        [] => Some("is empty"),
+        [0x1F, 0x8B, ..]
+        | [0x28, 0xB5, 0x2F, 0xFD]
+        | [0xFD, b'7', b'z', b'X']
+        | [b'B', b'Z', b'h', _]
+        | [4, 0x22, 0x4D, 0x18] => Some("is compressed: unpack it first"),
+        [0xA1, 0xB2, 0xCD, 0x34] | [0x34, 0xCD, 0xB2, 0xA1] | b"snoo" => {
+            Some("is a capture of a kind that is not read: save it as pcap or pcapng first")
+        }
+        _ => None,
+    }
 }
 
 /// The whole file is one message.
@@ -107,9 +122,7 @@ fn read_frame(file: &mut impl Read, bytes: &mut Vec<u8>) -> io::Result<Frame> {
 struct Packets {
     all: u64,
     messages: u64,
-    fragments: u64,
-    cut: u64,
-    other_links: u64,
+    unread: BTreeMap<Unread, u64>,
 }
 
 /// The DHCP messages of a capture.
@@ -125,31 +138,21 @@ fn from_capture(file: impl Read, taker: &mut Taker<'_>) -> Vec<String> {
         format!("{what} behind packet {}; the {} messages before were compared", packets.all, packets.messages)
     });
     let none = packets.messages == 0 && end.is_none();
-    let counted = |count: u64, what: &str| (count > 0).then(|| format!("has {count} {what}"));
-    [
-        end,
-        counted(packets.fragments, "DHCP messages in fragments, which were not compared"),
-        counted(packets.cut, "UDP packets that were captured in part, which were not compared"),
-        counted(packets.other_links, "packets on links of another type, which were not looked at"),
-        none.then(|| format!("has no DHCP message among its {} packets", packets.all)),
-    ]
-    .into_iter()
-    .flatten()
-    .collect()
+    let none = none.then(|| format!("has no DHCP message among its {} packets", packets.all));
+    let unread = packets.unread.iter().map(|(why, count)| format!("has {count} {}", why.words()));
+    end.into_iter().chain(unread).chain(none).collect()
 }
 
 fn read_packets(file: impl Read, taker: &mut Taker<'_>, packets: &mut Packets) -> Result<(), Trouble> {
     let mut capture = Capture::open(file)?;
     while let Some(packet) = capture.next_packet()? {
         packets.all += 1;
-        match capture::carried(&packet) {
+        match carried(&packet) {
             Carried::Message(source, bytes) => {
                 packets.messages += 1;
                 taker(Stored { number: packets.all, source: Some(source), bytes });
             }
-            Carried::Fragment => packets.fragments += 1,
-            Carried::Cut => packets.cut += 1,
-            Carried::OtherLink => packets.other_links += 1,
+            Carried::Unread(why) => *packets.unread.entry(why).or_default() += 1,
             Carried::Other => (),
         }
     }
@@ -159,6 +162,8 @@ fn read_packets(file: impl Read, taker: &mut Taker<'_>, packets: &mut Packets) -
 #[cfg(test)]
 mod tests {
     use super::*;
+    use crate::capture::tests::section_of;
+    use crate::carried::tests::{IP_LENGTH, UDP_LENGTH, changed, dhcp};
 
     /// The messages of framed bytes, and what went wrong.
     fn framed(bytes: &[u8]) -> (Vec<Vec<u8>>, Option<String>) {
@@ -186,6 +191,34 @@ mod tests {
         let mut lengths = Vec::new();
         assert_eq!(from_whole(&[1u8; 300][..], &mut |message| lengths.push(message.bytes.len())), None);
         assert_eq!(lengths, [300]);
+    }
+
+    #[test]
+    fn what_is_not_read_of_a_capture_is_said_and_the_rest_is_read() {
+        let lengths = [changed(UDP_LENGTH, 0), changed(UDP_LENGTH, 7), changed(UDP_LENGTH, 14), changed(IP_LENGTH, 27)];
+        let mut numbers = Vec::new();
+        let file = section_of(&[&[dhcp()][..], &lengths, &[dhcp()]].concat());
+        let said = from_capture(&file[..], &mut |message| numbers.push(message.number));
+        assert_eq!(numbers, [2, 7]);
+        let should = [
+            "has 1 UDP packets whose IP length is shorter than their headers, which were not compared",
+            "has 2 UDP packets whose length is below 8, which were not compared",
+            "has 1 UDP packets whose length goes past the end of their IP packet, which were not compared",
+            "has 2 packets of an interface that is not declared, which were not looked at",
+        ];
+        assert_eq!(said, should);
+    }
+
+    #[test]
+    fn files_that_hold_no_messages_are_known() {
+        assert_eq!(no_messages(&[]), Some("is empty"));
+        for first in [&[0x1F, 0x8B, 8, 0][..], &[0x1F, 0x8B], b"BZh9", &[4, 0x22, 0x4D, 0x18]] {
+            assert!(no_messages(first).unwrap().contains("is compressed"));
+        }
+        for first in [&0xA1B2_CD34_u32.to_be_bytes(), &0xA1B2_CD34_u32.to_le_bytes(), b"snoo"] {
+            assert!(no_messages(first).unwrap().contains("of a kind that is not read"));
+        }
+        assert_eq!(no_messages(&[2, 1, 6, 0]), None);
     }
 
     #[test]
