@@ -1,5 +1,5 @@
-// Lists the message on standard input: its header, its hardware address, its options and the stop of the walk. A sentence on standard
-// error says what failed, or what the lines `refused 1` and `too long` mean; of a message that is listed nothing is said there.
+// Lists the message on standard input: its header, its hardware address, its options and the stop of the walk. A sentence on
+// standard error says what failed, or what `refused 1` and `too long` mean; of a message that is listed nothing is said there.
 use encoder::Written;
 use limits::LEAST_MESSAGE;
 use lines::MOST_LISTED;
