@@ -22,7 +22,7 @@ use limits::LEAST_MESSAGE;
 use limits::MOST_BYTES;
 
 // The most bytes of a message that is listed, and the room in which its options are joined.
-const MOST_LISTED: usize = 4096;
+pub const MOST_LISTED: usize = 4096;
 
 // Writes the listing of `message` at `place`.
 pub fn write_listing(room: &mut [u8], place: usize, message: &[u8]) -> Written

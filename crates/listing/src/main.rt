@@ -1,24 +1,75 @@
-// Lists the message on standard input: its header, its hardware address, its options and the stop of the walk.
+// Lists the message on standard input: its header, its hardware address, its options and the stop of the walk. A sentence on
+// standard error says what failed, or what `refused 1` and `too long` mean; of a message that is listed nothing is said there.
 use encoder::Written;
+use limits::LEAST_MESSAGE;
+use lines::MOST_LISTED;
+
+// What came of reading: so many bytes, or a failure.
+enum Input {
+    Bytes(usize),
+    Failed,
+}
 
 fn main() {
     // One byte more than is listed, so that a longer message is told apart.
-    let mut message = [0u8; 4097];
-    let n = io::read_full(0, &mut message);
-    let mut text = [0u8; 65535];
-    let written = lines::write_listing(&mut text, 0, &message[0..n]);
-    say(&text, written);
+    let mut message = [0u8; MOST_LISTED + 1];
+    match read_message(&mut message) {
+        Input::Bytes(n) => list(borrowed::part(&message, 0, n)),
+        Input::Failed => os::fail(b"it could not be read"),
+    }
 }
 
-fn say(text: &[u8], written: Written) {
-    match written {
-        Written::To(len) => {
-            io::write_all(1, borrowed::part(text, 0, len));
+// Reads until the input ends or the room is full.
+fn read_message(room: &mut [u8]) -> Input {
+    let mut done: usize = 0;
+    while done < room.len() {
+        let got = libc::read(0, &mut room[done..]);
+        if got < 0 {
+            return Input::Failed;
         }
+        let more = io::count(got, &room[done..]);
+        if more == 0 {
+            break;
+        }
+        done += more;
+    }
+    Input::Bytes(done)
+}
+
+fn list(message: &[u8]) {
+    let mut text = [0u8; 65535];
+    match lines::write_listing(&mut text, 0, message) {
+        Written::To(len) => tell(borrowed::part(&text, 0, len), message.len()),
         Written::Refused(number) => {
             io::write_all(2, b"the listing is refused ");
             io::print_decimal(2, number as u64);
             io::write_all(2, b"\n");
         }
+    }
+}
+
+// Writes the listing of a message of `size` bytes, and says what its line means where it is refused or too long.
+fn tell(text: &[u8], size: usize) {
+    if !io::write_all(1, text) {
+        os::fail(b"the listing could not be written");
+    } else if size < LEAST_MESSAGE {
+        say_short(size);
+    } else if size > MOST_LISTED {
+        io::write_all(2, b"too long: it has more than ");
+        io::print_decimal(2, MOST_LISTED as u64);
+        io::write_all(2, b" bytes, and no longer message is listed\n");
+    }
+}
+
+fn say_short(size: usize) {
+    io::write_all(2, b"refused 1: it has ");
+    io::print_decimal(2, size as u64);
+    io::write_all(2, b" of the ");
+    io::print_decimal(2, LEAST_MESSAGE as u64);
+    io::write_all(2, b" bytes that a DHCP message has at least: it is ");
+    if size == 0 {
+        io::write_all(2, b"empty\n");
+    } else {
+        io::write_all(2, b"cut, or no DHCP message\n");
     }
 }
