@@ -1,4 +1,4 @@
--- The worked examples of docs/READING.md hold: both sides of an equation are computed, and what is none is shown by its numbers.
+-- The worked examples of the base of docs/READING.md hold: both sides of an equation are computed, and what is none is shown by its numbers.
 -- Assumes nothing.
 use Rattle.facts.specs.BigEndian.{numberAt}
 use mathlib.Core.Path.{refl}

@@ -1,4 +1,4 @@
--- The worked examples of docs/READING.md, a statement for each of its tables: each example is computed from the definitions.
+-- The worked examples of the base of docs/READING.md, a statement for each of its tables: each example is computed from the definitions.
 -- `tools/reading` holds the page against this file.
 -- Assumes nothing.
 use Prim.Native.Nat.{ℕ, _+_}
