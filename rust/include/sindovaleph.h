@@ -5,11 +5,12 @@
  * _typed_rows.a and _lines.a beside it; ./archives in the repository's root builds them in target/staticlib.
  *
  * Every function takes whatever bytes, lengths and places it is lent and ends with an answer or the number of a
- * refusal. It needs valid memory and no more: each pointer, which is never NULL, has as many elements as the length
- * behind it says, and what is written to overlaps nothing else that is lent. No pointer is kept.
+ * refusal. It needs valid memory and no more: each pointer has as many elements as the length behind it says, and may be
+ * NULL where that is 0; what is written to overlaps nothing else that is lent. No pointer is kept.
  *
- * In every answer `refused` is the number of a refusal, 0 for none. Where one is given, all else is 0, unless it is said
- * there, a place is the one that was given, and nothing that was lent is changed.
+ * In every answer `refused` is the number of a refusal, 0 for none. Where one is given, nothing that was lent is
+ * changed, a place is the one that was given, and all else is 0 but for two numbers: `len` of a step that is refused
+ * with 5 says how many bytes are needed, and `rows` of a write of rows says which row is refused.
  */
 #ifndef SINDOVALEPH_H
 #define SINDOVALEPH_H
@@ -95,8 +96,9 @@ typedef struct {
     size_t number;
 } SindovalephField;
 
-/* One call of the walk: an option or a stop. With one part the value is the `len` bytes of the area before `place`,
-   with more the first `len` bytes of the join buffer. Refusal 5 says in `len` how many are needed. */
+/* One call of the walk: an option; or a stop, whose code, parts and len are 0. With one part the value is the `len`
+   bytes of the area before `place`, with more the first `len` bytes of the join buffer. Refusal 5 says in `len` how many
+   are needed. */
 typedef struct {
     uint8_t refused;
     uint8_t stop; /* 0 for an option */
@@ -145,8 +147,9 @@ typedef struct {
     size_t place;
 } SindovalephRow;
 
-/* An option in a typed listing, in the numbers of SindovalephRow and SindovalephValue: 8 numbers a row. Nothing is
-   joined: an option of two parts or more is refused with 5, unless it is empty. */
+/* An option in a typed listing, in the numbers of SindovalephRow and SindovalephValue: 8 numbers a row. `refused` is of
+   the value alone: the option's code, parts, len and place stand, and kind, number and count are 0. Nothing is joined:
+   an option of two parts or more is refused with 5, unless it is empty, and `len` says how many bytes it has. */
 typedef struct {
     size_t code;
     size_t parts;
@@ -263,7 +266,9 @@ SindovalephElement sindovaleph_element(uint8_t code, const uint8_t *value, size_
 
 /* libsindovaleph_lines.a: the listing of a message as text. */
 
-/* Writes it at a place of a room. */
+/* Writes it at a place of a room. At place 0 a room of 65,535 bytes, the most that a room may have, takes the listing of
+   any message; a listing that does not fit is refused with 8. The listing of a message that is too short or has more
+   than 4,096 bytes is one line that says so, and no refusal. */
 SindovalephWritten sindovaleph_write_listing(uint8_t *room, size_t room_len, size_t place, const uint8_t *message,
                                              size_t message_len);
 

@@ -3,7 +3,8 @@
 //! are. The rest of this crate gives these numbers their types; who wants the plain numbers calls here.
 //!
 //! In every answer `refused` is the number of a refusal ([`Refusal`](crate::Refusal)), 0 for none. Where one is given,
-//! all else is 0, unless it is said there, and a place is the one that was given.
+//! nothing that was lent is changed, a place is the one that was given, and all else is 0 but for two numbers: `len` of
+//! a [`Step`] that is refused with 5, and `rows` of [`WrittenRows`].
 
 /// All fields of the fixed header.
 #[repr(C)]
@@ -138,8 +139,9 @@ pub struct Row {
     pub place: usize,
 }
 
-/// An option in a typed listing, in the numbers of [`Step`] and [`Value`]. An option of two parts or more is refused
-/// with 5, unless it is empty: nothing is joined in a listing.
+/// An option in a typed listing, in the numbers of [`Step`] and [`Value`]. `refused` is of the value alone: the option's
+/// code, parts, length and place stand. An option of two parts or more is refused with 5, unless it is empty: nothing is
+/// joined in a listing.
 #[repr(C)]
 #[derive(Clone, Copy, Debug, Default, PartialEq, Eq)]
 pub struct ReadRow {
@@ -595,7 +597,8 @@ pub fn write_routes(room: &mut [u8], place: usize, routes: &[Route]) -> Written 
     unsafe { sindovaleph_write_routes(room.as_mut_ptr(), room.len(), place, routes.as_ptr(), routes.len()) }
 }
 
-/// The listing of a message as text.
+/// The listing of a message as text. At place 0 a room of 65,535 bytes, the most that a room may have, takes the listing
+/// of any message; one that does not fit is refused with 8.
 #[inline]
 pub fn write_listing(room: &mut [u8], place: usize, message: &[u8]) -> Written {
     unsafe { sindovaleph_write_listing(room.as_mut_ptr(), room.len(), place, message.as_ptr(), message.len()) }

@@ -5,7 +5,7 @@ use crate::refusal::{Refusal, checked};
 
 /// Writes the listing of a message into a room, and shows it: the header, the hardware address, a line for each option,
 /// and the stop of the walk. Any bytes can be listed: fewer than 240 are told as `refused 1`, more than 4,096 as
-/// `too long`. A room that is too short is [`Refusal::NoRoom`].
+/// `too long`. A room of 65,535 bytes takes the listing of any message; one that is too short is [`Refusal::NoRoom`].
 ///
 /// ```
 /// use sindovaleph::{Refusal, listing};

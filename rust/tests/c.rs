@@ -1,10 +1,11 @@
-//! The header for C and C++: it compiles by itself without a warning, its numbers are those of this crate, and the
-//! examples walk and write.
+//! The header for C and C++: it compiles by itself without a warning, its numbers are those of this crate, the examples
+//! walk and write, and NULL with length 0 is an empty slice.
 
 mod common;
 
 use common::layouts;
 use sindovaleph::{Kind, Refusal, Stop};
+use std::collections::BTreeSet;
 use std::env;
 use std::fs;
 use std::path::{Path, PathBuf};
@@ -109,11 +110,11 @@ fn the_names_of_the_header_have_the_same_numbers() {
     compiles(c_compiler().arg("-std=c11"), "numbers.c", &text);
 }
 
-/// What an example prints, linked with these archives.
-fn printed_by(example: &str, archives: &[&str]) -> String {
-    let program = scratch(example, "");
+/// What a program of one source prints, linked with these archives.
+fn printed_by(source: &str, archives: &[&str]) -> String {
+    let program = scratch(&source.replace(['/', '.'], "-"), "");
     let mut compiler = c_compiler();
-    compiler.args(WARNINGS).arg("-I").arg(here("include")).arg(here(&format!("examples/{example}.c")));
+    compiler.args(WARNINGS).arg("-I").arg(here("include")).arg(here(source));
     compiler.args(archives.iter().map(|name| Path::new(env!("SINDOVALEPH_FOLDER")).join(name)));
     succeeded(compiler.arg("-o").arg(&program));
     let runner = "CARGO_TARGET_X86_64_UNKNOWN_LINUX_GNU_RUNNER";
@@ -127,16 +128,35 @@ fn printed_by(example: &str, archives: &[&str]) -> String {
 
 #[test]
 fn the_example_walks() {
-    let printed = printed_by("walk", &["libsindovaleph.a"]);
+    let printed = printed_by("examples/walk.c", &["libsindovaleph.a"]);
     assert_eq!(printed, "option 53 has 1 bytes\noption 12 has 4 bytes\nstop 2 at 12\n");
 }
 
 #[test]
 fn the_example_writes_all_rows_or_none() {
-    let printed = printed_by("rows", &["libsindovaleph_rows.a", "libsindovaleph.a"]);
+    let printed = printed_by("examples/rows.c", &["libsindovaleph_rows.a", "libsindovaleph.a"]);
     let untouched = " 9".repeat(18);
     let first = format!("row 1 is refused by 6, place 2:{untouched}\n");
     let second = format!("row 2 is refused by 8, place 2:{untouched}\n");
     let third = "3 rows are written, place 17: 9 9 53 1 5 51 4 0 0 14 16 12 4 104 111 115 116 9\n";
     assert_eq!(printed, first + &second + third);
+}
+
+/// The functions of the header that take a pointer.
+fn lending_functions() -> BTreeSet<String> {
+    let text = fs::read_to_string(here("include/sindovaleph.h")).expect("the header can be read");
+    let declared = text.split(';').filter_map(|item| item.rsplit_once("sindovaleph_")?.1.split_once('('));
+    declared.filter(|(_, lent)| lent.contains('*')).map(|(name, _)| format!("sindovaleph_{name}")).collect()
+}
+
+#[test]
+fn null_with_length_0_is_an_empty_slice() {
+    let archives = ["", "_typed", "_elements", "_rows", "_typed_rows", "_lines"];
+    let archives = archives.map(|name| format!("libsindovaleph{name}.a"));
+    let printed = printed_by("tests/null.c", &archives.each_ref().map(String::as_str));
+    let lines: Vec<&str> = printed.lines().collect();
+    let (there, nowhere) = lines.split_at(lines.len() / 2);
+    assert_eq!(there, nowhere);
+    let called: BTreeSet<String> = there.iter().filter_map(|line| Some(line.split_once(' ')?.0.into())).collect();
+    assert_eq!(called, lending_functions());
 }

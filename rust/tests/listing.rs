@@ -1,4 +1,5 @@
-//! The listing as text: byte for byte what `./list` prints.
+//! The listing as text: byte for byte what `./list` prints. A room of 65,535 bytes takes every listing, which is proved; where one
+//! does not fit, nothing is written.
 
 use sindovaleph::{Message, Refusal, listing};
 
@@ -34,4 +35,29 @@ fn a_room_that_is_too_short_is_left_as_it_is() {
     assert!(room.iter().all(|&byte| byte == 0xEE));
     assert_eq!(listing(ACK, &mut room[..len]).map(str::len), Ok(len));
     assert_eq!(listing(ACK, &mut vec![0; 65_536]), Err(Refusal::TooLong));
+}
+
+/// A message of 4,096 bytes with a very long listing: the numbers of the header and nearly all bytes of the address have
+/// three digits or more, and the area has nothing but empty options of codes 100 and 101, whose lines are the longest
+/// for the bytes that they take.
+fn long_listed() -> Vec<u8> {
+    let mut message = vec![255; 240];
+    message[236..].copy_from_slice(&[99, 130, 83, 99]);
+    message.extend([100, 0, 101, 0].repeat((4096 - 240) / 4));
+    message
+}
+
+#[test]
+fn a_very_long_listing_fits() {
+    let message = long_listed();
+    assert_eq!(message.len(), 4096);
+    let mut room = vec![0; 65_535];
+    let text = listing(&message, &mut room).unwrap();
+    assert_eq!(text.len(), 64_674);
+    let lines: Vec<&str> = text.lines().collect();
+    assert_eq!(lines.len(), 2 + 1928 + 1);
+    assert_eq!(lines[0], "message 4096 op 255 htype 255 hlen 255 xid 4294967295");
+    assert_eq!(lines[2], "option 100 kind 10 parts 1 value");
+    assert_eq!(lines.last(), Some(&"stop out 3856"));
+    assert_eq!(listing(&message, &mut room[..64_673]), Err(Refusal::NoRoom));
 }

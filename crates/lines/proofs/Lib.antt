@@ -1,3 +1,4 @@
 pub mod Telling
 pub mod Whole
 pub mod Unique
+pub mod Room

@@ -1,4 +1,4 @@
--- The worked examples of docs/READING.md hold: both sides of an equation are computed, and what is none is shown by its numbers.
+-- The worked examples of the base of docs/READING.md hold: both sides of an equation are computed, and what is none is shown by its numbers.
 -- Assumes nothing.
 use Rattle.facts.specs.BigEndian.{numberAt}
 use mathlib.Core.Path.{refl}
@@ -23,11 +23,11 @@ use Rattle.promises.specs.Worked.{abc, OfGeneral, OfNumbers, OfHeader, O
 
 pub of-general : OfGeneral
 unfolding over piecesIn pieces within lookup numberAt
-of-general = (refl, refl, refl, refl, refl, refl, refl, refl, refl)
+of-general = (refl, refl, refl, refl, refl, refl, refl, refl, refl, refl, refl)
 
 pub of-numbers : OfNumbers
 unfolding piecesIn pieces within lookup andThen tooLong tooShort pastEnd noElement noCode tooMuch noRoom checked firstRefusal extend furtherIn further joined behind walk roomFor stepChecks step kinds kindOf sizes sizeOf rules ruleFor wrongLength readChecks read partsOf encode follows
-of-numbers = (refl, refl, refl, refl, refl, refl, refl, refl, refl, refl, refl, refl, refl, refl)
+of-numbers = (refl, refl, refl, refl, refl, refl, refl, refl, refl, refl, refl, refl, refl, refl, refl)
 
 pub of-header : OfHeader
 unfolding tooLong tooShort checked messageChecks field chaddrPart chaddrCut chaddrChecks chaddr untilZero textField sname magicRight area
@@ -35,11 +35,11 @@ of-header = (refl, refl, refl, refl, refl, refl, refl, refl, refl, refl, refl, r
 
 pub of-walk : OfWalk
 unfolding over tooLong pastEnd checked extend furtherIn further joined behind walk roomFor stepChecks step joinAfter placeAfter
-of-walk = (refl, refl, refl, refl, refl, refl, refl, refl, refl, refl, refl, refl, refl, refl, refl)
+of-walk = (refl, refl, refl, refl, refl, refl, refl, refl, refl, refl, refl, refl, refl, refl, refl, refl)
 
 pub of-kinds : OfKinds
 unfolding within lookup kinds kindOf sizes sizeOf
-of-kinds = (refl, refl, refl, refl)
+of-kinds = (refl, refl, refl, refl, refl, refl)
 
 pub of-text : OfText
 unfolding within lookup forms lead owes whole utf8From utf8
@@ -47,7 +47,7 @@ of-text = (refl, refl, refl, refl, refl, refl)
 
 pub of-values : OfValues
 unfolding piecesIn pieces within lookup andThen tooLong noElement noCode checked kinds kindOf sizes sizeOf forms lead owes whole utf8From utf8 numbersOf widthOf contents valueOf rules ruleFor wrongLength notText unclear readChecks read elements elementAt element nodeOf readFound readOption
-of-values = (refl, refl, refl, refl, refl, refl, refl, refl, refl, refl, refl, refl, refl, refl, refl, refl, refl, refl, refl, refl)
+of-values = (refl, refl, refl, refl, refl, refl, refl, refl, refl, refl, refl, refl, refl, refl, refl, refl, refl, refl, refl, refl, refl)
 
 pub of-writing : OfWriting
 unfolding over piecesIn pieces tooLong pastEnd noCode tooMuch noRoom checked partsOf encode writeChecks answerTo roomLeft roomAfter writeSlice writeBytes intoRoom close

@@ -1,4 +1,4 @@
--- The worked examples of docs/READING.md, a statement for each of its tables: each example is computed from the definitions.
+-- The worked examples of the base of docs/READING.md, a statement for each of its tables: each example is computed from the definitions.
 -- `tools/reading` holds the page against this file.
 -- Assumes nothing.
 use Prim.Native.Nat.{ℕ, _+_}
@@ -51,6 +51,8 @@ OfGeneral =
     (over (1 ∷ 2 ∷ 3 ∷ 4 ∷ []) 1 (8 ∷ 9 ∷ []) ≡ 1 ∷ 8 ∷ 9 ∷ 4 ∷ [])
     × (pieces 2 (1 ∷ 2 ∷ 3 ∷ []) ≡ (1 ∷ 2 ∷ []) ∷ (3 ∷ []) ∷ [])
     × (lookup false (row 3 11 true ∷ []) 7 ≡ true)
+    × (lookup false (row 3 11 true ∷ row 5 7 false ∷ []) 6 ≡ true)
+    × (lookup false (row 3 11 true ∷ row 5 7 false ∷ []) 12 ≡ false)
     × (number (5 ∷ 220 ∷ []) ≡ 1500)
     × (numberAt 2 (0 ∷ 5 ∷ 220 ∷ []) 1 ≡ 1500)
     × (numberAt 2 (0 ∷ 5 ∷ 220 ∷ []) 2 ≡ 0)
@@ -74,6 +76,7 @@ OfNumbers =
     × (checked (check false 2 ∷ check true 4 ∷ check true 6 ∷ []) (given true) ≡ refused 4)
     × (firstRefusal (check false 2 ∷ check true 4 ∷ check true 6 ∷ []) ≡ 4)
     × (follows (2 ∷ 4 ∷ 8 ∷ []) order ≡ true)
+    × (follows (4 ∷ 2 ∷ []) order ≡ false)
 
 abbrev pub OfHeader : Type 0
 OfHeader =
@@ -96,7 +99,8 @@ OfHeader =
 
 abbrev pub OfWalk : Type 0
 OfWalk =
-    (walk 0 (12 ∷ 1 ∷ 65 ∷ 255 ∷ []) ≡ option 12 (65 ∷ []) 1 3)
+    (walk 0 (12 ∷ []) ≡ stop cutLength 1)
+    × (walk 0 (12 ∷ 1 ∷ 65 ∷ 255 ∷ []) ≡ option 12 (65 ∷ []) 1 3)
     × (extend (65 ∷ []) (run 1 (66 ∷ [])) ≡ run 2 (65 ∷ 66 ∷ []))
     × (further 12 (12 ∷ 1 ∷ 66 ∷ 255 ∷ []) ≡ run 1 (66 ∷ []))
     × (further 12 (0 ∷ 12 ∷ 1 ∷ 66 ∷ []) ≡ run 0 [])
@@ -117,6 +121,8 @@ OfKinds =
     (has 3 (only 21 ∷ from 33 34 ∷ []) ≡ row 21 21 3 ∷ row 33 34 3 ∷ [])
     × (kindOf 53 ≡ 13)
     × (kindOf 61 ≡ 0)
+    × (kindOf 106 ≡ 8)
+    × (kindOf 108 ≡ 0)
     × (sizeOf 3 ≡ 8)
 
 abbrev pub OfText : Type 0
@@ -136,6 +142,7 @@ OfValues =
     × (valueOf 6 (5 ∷ 220 ∷ 9 ∷ []) ≡ value 6 (natural 1500))
     × (valueOf 9 (255 ∷ 255 ∷ 199 ∷ 192 ∷ []) ≡ value 9 (integer (negsuc 14399)))
     × (breaks multiple 4 6 ≡ true)
+    × (breaks atLeast 4 6 ≡ false)
     × (ruleFor plain 8 ≡ atLeast)
     × (ruleFor strict 8 ≡ exactly)
     × (wrongLength plain 7 (0 ∷ 68 ∷ 1 ∷ []) ≡ true)

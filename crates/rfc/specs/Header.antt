@@ -70,7 +70,7 @@ magicField = part 236 4
 unfoldable pub messageChecks : List ℕ → List Check
 messageChecks message = check (tooLong message) 2 ∷ check (tooShort message) 1 ∷ []
 
--- a field as a number, in network byte order (RFC 2132, section 2)
+-- a field as a number, the highest byte first (document 01: RFC 2131 does not say it; RFC 2132, section 2, does of options)
 unfoldable pub field : Part → List ℕ → Answer ℕ
 field f message = checked (messageChecks message) (given (number (bytesOf f message)))
 
@@ -78,7 +78,7 @@ field f message = checked (messageChecks message) (given (number (bytesOf f mess
 unfoldable pub chaddrPart : List ℕ → Part
 chaddrPart message = part (chaddrField .start) (number (bytesOf hlen message))
 
--- 3: 28 + hlen is more than the message's length
+-- 3 (document 01): 28 + hlen is more than the message's length
 unfoldable pub chaddrCut : List ℕ → Bool
 chaddrCut message = ltb (length message) (chaddrPart message .start + chaddrPart message .len)
 
@@ -93,7 +93,7 @@ unfoldable pub untilZero : List ℕ → ℕ
 untilZero [] = 0
 untilZero (b ∷ rest) = cond (eqb b 0) 0 (suc (untilZero rest))
 
--- table 1: sname and file are null terminated strings; one without a zero is whole
+-- table 1: sname and file are null terminated strings; one without a zero is whole (document 01)
 unfoldable pub textField : Part → List ℕ → Answer Part
 textField f message = checked (messageChecks message) (given (part (f .start) (untilZero (bytesOf f message))))
 

@@ -22,7 +22,7 @@ has kind codes = map (rowOf kind) codes
 -- the document's table. Sections are of RFC 2132, where no other RFC is named
 unfoldable pub kinds : List (Row ℕ)
 kinds =
-    -- address (3.3, 3.18, 5.3, 5.7, 9.1, 9.7; RFC 3011, section 2; RFC 5859)
+    -- address (3.3, 3.18, 5.3, 5.7, 9.1, 9.7; RFC 3011, section 2; RFC 5859, section 3, which has a list in 150)
     has 1 (only 1 ∷ only 16 ∷ only 28 ∷ only 32 ∷ only 50 ∷ only 54 ∷ only 118 ∷ only 150 ∷ [])
     -- addresses (3.5 to 3.13, 8.2, 8.3, 8.5, 8.6, 8.9, 8.10, 8.12 to 8.21; RFC 4280, section 4.3; RFC 4388, section 6.1)
     ++ has 2 (from 3 11 ∷ only 41 ∷ only 42 ∷ only 44 ∷ only 45 ∷ only 48 ∷ only 49 ∷ only 65 ∷ from 68 76 ∷ [])
@@ -33,15 +33,16 @@ kinds =
     ++ has 4 (only 23 ∷ only 37 ∷ only 52 ∷ [])
     -- yes/no (4.1, 4.2, 5.2, 5.4, 5.5, 5.6, 6.1, 6.3, 7.3)
     ++ has 5 (only 19 ∷ only 20 ∷ only 27 ∷ only 29 ∷ only 30 ∷ only 31 ∷ only 34 ∷ only 36 ∷ only 39 ∷ [])
-    -- u16 (3.15, 4.4, 5.1, 9.10; RFC 4578, section 2.1)
+    -- u16 (3.15, 4.4, 5.1, 9.10; RFC 4578, section 2.1, which has a list in 93)
     ++ has 6 (only 13 ∷ only 22 ∷ only 26 ∷ only 57 ∷ only 93 ∷ [])
     -- u16 list (4.7)
     ++ has 7 (only 25 ∷ [])
-    -- u32 (4.6, 6.2, 7.2, 9.2, 9.11, 9.12; RFC 4388, section 6.1; RFC 8925; RFC 6926)
+    -- u32 (4.6, 6.2, 7.2, 9.2, 9.11, 9.12; RFC 4388, section 6.1; RFC 6926, sections 6.2.3 to 6.2.6). 106 is the crate's and the
+    -- document's: RFC 8925, section 3.1, has IPv6-Only Preferred at 108, which is raw here
     ++ has 8 (only 24 ∷ only 35 ∷ only 38 ∷ only 51 ∷ only 58 ∷ only 59 ∷ only 91 ∷ only 106 ∷ from 152 155 ∷ [])
     -- i32 (3.4)
     ++ has 9 (only 2 ∷ [])
-    -- text (3.14, 3.16, 3.17, 3.19, 3.20, 8.1, 8.8, 9.9, 8.11; RFC 2242, section 2; RFC 4833, section 2; RFC 8910)
+    -- text (3.14, 3.16, 3.17, 3.19, 3.20, 8.1, 8.8, 9.9, 8.11; RFC 2242, section 2; RFC 4833, section 2; RFC 8910, section 2.1)
     ++ has 10 (only 12 ∷ only 14 ∷ only 15 ∷ only 17 ∷ only 18 ∷ only 40 ∷ only 47 ∷ only 56 ∷ only 62 ∷ only 64 ∷ [])
     ++ has 10 (only 100 ∷ only 101 ∷ only 114 ∷ [])
     -- codes (9.8)

@@ -1,5 +1,5 @@
--- How a typed value is written: its bytes by its kind, lists cut at whole elements (RFC 2132, sections 3 to 9; document 01, "Writing"); and
--- what the values of each kind are.
+-- How a typed value is written: its bytes by its kind (RFC 2132, sections 3 to 9), lists cut at whole elements (document 01, "Writing");
+-- and what the values of each kind are.
 -- Assumes nothing.
 use Prim.Native.Nat.{ℕ, _*_, _/_, _%_, _^_, _<_}
 use mathlib.Core.Path.{_≡_}
@@ -30,11 +30,11 @@ bytesIn kind nothing = []
 abbrev pub bytesOf : Value → List ℕ
 bytesOf value = bytesIn (value .kind) (value .content)
 
--- the most bytes of one part of a kind: as many whole elements as 255 bytes hold
+-- the most bytes of one part of a kind: as many whole elements as 255 bytes hold (document 01; RFC 3396, section 6, allows any cut)
 unfoldable pub partSize : ℕ → ℕ
 partSize kind = mostPart / sizeOf kind * sizeOf kind
 
--- bytes of a kind, in parts of whole elements; a flag is one part with no value
+-- bytes of a kind, in parts of whole elements; a flag is one part with no value (RFC 4039, section 4)
 unfoldable pub encodeKind : ℕ → ℕ → List ℕ → List ℕ
 encodeKind kind code v = cond (eqb kind 15) (code ∷ 0 ∷ []) (encode (partSize kind) code v)
 

@@ -37,7 +37,7 @@ unfoldable pub widthOf : ℕ → ℕ
 widthOf kind = lookup 1 (row 2 3 4 ∷ row 7 7 2 ∷ []) kind
 
 -- what each kind holds, where `first` is the number that its first element's bytes are. Bytes behind a number are not looked at, and
--- only 1 is yes
+-- only 1 is yes (document 01)
 unfoldable pub contents : ℕ → List ℕ → ℕ → List (Row Content)
 contents kind v first =
     row 0 0 (raw v)
@@ -59,7 +59,7 @@ unfoldable pub valueOf : ℕ → List ℕ → Value
 valueOf kind v =
     record { kind = kind; content = lookup nothing (contents kind v (number (take (sizeOf kind) v))) kind }
 
--- the rule for a value's length, by the size of its kind's element: exactly it, at least it, a multiple of it
+-- the rule for a value's length, by the size of its kind's element: exactly it or a multiple of it (RFC 2132), or at least it (document 01)
 pub data Rule : Type 0 where
   exactly atLeast multiple : Rule
 

@@ -13,8 +13,8 @@ use Rattle.rfc.specs.Numbers.{Answer, given, refused, needs, Check, chec
 pub data Stop : Type 0 where
   out end cutLength cutValue cutContinuation : Stop
 
--- what a call finds: a stop and the place behind it; or an option: its code, its values joined, how many parts it has, and the place
--- behind the last
+-- what a call finds: a stop and the place behind it (document 01); or an option: its code, its values joined, how many parts it has, and
+-- the place behind the last
 pub data Found : Type 0 where
   stop : Stop → ℕ → Found
   option : ℕ → List ℕ → ℕ → ℕ → Found

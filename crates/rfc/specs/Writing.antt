@@ -13,7 +13,7 @@ unfoldable pub partsOf : ℕ → List (List ℕ) → List ℕ
 partsOf code [] = []
 partsOf code (p ∷ ps) = code ∷ length p ∷ (p ++ partsOf code ps)
 
--- a value in parts of so many bytes, the last one shorter; an empty value is no part (RFC 3396, section 6)
+-- a value in parts of so many bytes, the last one shorter (RFC 3396, section 6); an empty value is no part (document 01)
 unfoldable pub encode : ℕ → ℕ → List ℕ → List ℕ
 encode size code v = partsOf code (pieces size v)
 

@@ -1,0 +1,46 @@
+-- The worked examples of rows and of the listing hold: both sides of an equation are computed, and what a record says too.
+-- Assumes nothing.
+use mathlib.Core.Path.{refl}
+use Rattle.facts.specs.Over.{over}
+use Rattle.facts.specs.Pieces.{piecesIn, pieces}
+use Rattle.facts.specs.Ranges.{within, lookup}
+use Rattle.rfc.specs.Numbers.{andThen, tooLong, tooShort, pastEnd, noCode, tooMuch, noRoom, checked}
+use Rattle.rfc.specs.Header.{messageChecks, chaddrPart, chaddrCut, chaddrChecks, chaddr, magicRight, area}
+use Rattle.rfc.specs.Walk.{extend, furtherIn, further, joined, behind, walk, roomFor, stepChecks, step}
+use Rattle.rfc.specs.Kinds.{kinds, kindOf, sizes, sizeOf}
+use Rattle.rfc.specs.Values.{contents, widthOf, valueOf, rules, ruleFor, wrongLength, notText, unclear, readChecks, read, elements}
+use Rattle.rfc.specs.Writing.{partsOf, encode, writeChecks, answerTo, roomLeft, roomAfter}
+use Rattle.options.specs.Rows.{outside, notCode, writeRow, orStuck, rowsFrom, writeRows}
+use Rattle.sindovaleph_rows.specs.Listing.{readUnjoined, inFront, listIn, list}
+use Rattle.pen.specs.Texts.{decimalIn, decimal, spaced}
+use Rattle.lines.specs.Listing.{messageLine, refusedLine, addressText, chaddrLine, optionLine, stopLine, onward, linesIn, areaLines, listing}
+use Rattle.calls.specs.Shown.{OfRowsWritten, OfRowsListed, OfListing}
+
+pub of-rows-written : OfRowsWritten
+unfolding over piecesIn pieces tooLong pastEnd noCode tooMuch noRoom checked partsOf encode writeChecks answerTo roomLeft roomAfter outside notCode writeRow orStuck rowsFrom writeRows
+of-rows-written = (
+  refl,
+  refl,
+  refl,
+  refl,
+  refl,
+  refl,
+  refl,
+  refl,
+  refl,
+  refl,
+  refl,
+  record { told = refl; left = refl },
+  refl,
+  record { told = refl; left = refl },
+)
+
+pub of-rows-listed : OfRowsListed
+unfolding over piecesIn pieces within lookup andThen tooLong pastEnd noCode checked extend furtherIn further joined behind walk roomFor stepChecks kinds kindOf sizes sizeOf widthOf contents valueOf rules ruleFor wrongLength notText unclear readChecks read elements readUnjoined inFront listIn list
+of-rows-listed =
+    (refl, refl, refl, refl, refl, refl, refl, refl, refl, refl, refl, refl, refl, refl, record { told = refl; kept = refl })
+
+pub of-listing : OfListing
+unfolding within lookup tooLong tooShort pastEnd checked messageChecks chaddrPart chaddrCut chaddrChecks chaddr magicRight area extend furtherIn further joined behind walk roomFor stepChecks step kinds kindOf decimalIn decimal spaced messageLine refusedLine addressText chaddrLine optionLine stopLine onward linesIn areaLines listing
+of-listing =
+    (refl, refl, refl, refl, refl, refl, refl, refl, refl, refl, refl, refl, refl, refl, refl, refl, refl, refl)
