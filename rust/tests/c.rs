@@ -1,5 +1,5 @@
-//! The header for C and C++: it compiles by itself without a warning, its numbers are those of this crate, and the
-//! examples walk and write.
+//! The header for C and C++: it compiles by itself without a warning, its numbers are those of this crate, the examples
+//! walk and write, and a header of another version does not link.
 
 mod common;
 
@@ -109,13 +109,18 @@ fn the_names_of_the_header_have_the_same_numbers() {
     compiles(c_compiler().arg("-std=c11"), "numbers.c", &text);
 }
 
-/// What an example prints, linked with these archives.
-fn printed_by(example: &str, archives: &[&str]) -> String {
-    let program = scratch(example, "");
+/// The compiler that makes a program of sources, with the header of a folder and with the library.
+fn linking(program: &Path, include: &Path, sources: &[PathBuf]) -> Command {
     let mut compiler = c_compiler();
-    compiler.args(WARNINGS).arg("-I").arg(here("include")).arg(here(&format!("examples/{example}.c")));
-    compiler.args(archives.iter().map(|name| Path::new(env!("SINDOVALEPH_FOLDER")).join(name)));
-    succeeded(compiler.arg("-o").arg(&program));
+    compiler.args(WARNINGS).arg("-I").arg(include).args(sources);
+    compiler.arg(Path::new(env!("SINDOVALEPH_FOLDER")).join("libsindovaleph.a")).arg("-o").arg(program);
+    compiler
+}
+
+/// What an example prints.
+fn printed_by(example: &str) -> String {
+    let program = scratch(example, "");
+    succeeded(&mut linking(&program, &here("include"), &[here(&format!("examples/{example}.c"))]));
     let runner = "CARGO_TARGET_X86_64_UNKNOWN_LINUX_GNU_RUNNER";
     let path = program.to_string_lossy();
     let mut run = command(runner, &path);
@@ -127,16 +132,43 @@ fn printed_by(example: &str, archives: &[&str]) -> String {
 
 #[test]
 fn the_example_walks() {
-    let printed = printed_by("walk", &["libsindovaleph.a"]);
+    let printed = printed_by("walk");
     assert_eq!(printed, "option 53 has 1 bytes\noption 12 has 4 bytes\nstop 2 at 12\n");
 }
 
 #[test]
 fn the_example_writes_all_rows_or_none() {
-    let printed = printed_by("rows", &["libsindovaleph_rows.a", "libsindovaleph.a"]);
+    let printed = printed_by("rows");
     let untouched = " 9".repeat(18);
     let first = format!("row 1 is refused by 6, place 2:{untouched}\n");
     let second = format!("row 2 is refused by 8, place 2:{untouched}\n");
     let third = "3 rows are written, place 17: 9 9 53 1 5 51 4 0 0 14 16 12 4 104 111 115 116 9\n";
     assert_eq!(printed, first + &second + third);
+}
+
+/// A folder with the header of another version, and the name that it has.
+fn another_version() -> (PathBuf, String) {
+    let text = fs::read_to_string(here("include/sindovaleph.h")).expect("the header can be read");
+    let text = text.replace("sindovaleph_boundary_", "sindovaleph_boundary_9");
+    let (_, name) = text.split_once("#define SINDOVALEPH_BOUNDARY ").expect("the header names its version");
+    let name = name.lines().next().unwrap_or_default().to_string();
+    let folder = Path::new(env!("CARGO_TARGET_TMPDIR")).join("another-version");
+    fs::create_dir_all(&folder).expect("the tests' folder can be written to");
+    fs::write(folder.join("sindovaleph.h"), text).expect("the tests' folder can be written to");
+    (folder, name)
+}
+
+#[test]
+fn a_header_of_another_version_does_not_link() {
+    let (another, name) = another_version();
+    let program = scratch("versions", "");
+    // Two files that include it; the second calls nothing.
+    let sources = [here("examples/walk.c"), scratch("second.c", "#include \"sindovaleph.h\"\n")];
+    let dropping = ["-O2", "-ffunction-sections", "-fdata-sections", "-Wl,--gc-sections"];
+    for words in [&[][..], &dropping[..]] {
+        succeeded(linking(&program, &here("include"), &sources).args(words));
+        let output = linking(&program, &another, &sources).args(words).output().expect("the compiler runs");
+        let said = String::from_utf8_lossy(&output.stderr);
+        assert!(!output.status.success() && said.contains(&name), "{words:?} links, or says nothing of {name}: {said}");
+    }
 }
