@@ -55,7 +55,10 @@ fn only_one_version_links(name: &str, words: &[&str]) {
     assert!(output.status.success(), "{}", String::from_utf8_lossy(&output.stderr));
     let output = linked(&sources(&format!("{name}-another"), "9"), words);
     let said = String::from_utf8_lossy(&output.stderr);
-    assert!(!output.status.success() && said.contains("sindovaleph_boundary_9"), "it links, or says why not: {said}");
+    assert!(
+        !output.status.success() && said.contains("sindovaleph_boundary_9"),
+        "it links, or does not say why not: {said}"
+    );
 }
 
 #[test]
