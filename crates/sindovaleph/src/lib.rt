@@ -1,5 +1,5 @@
 // The boundary to programs in Rust and in C, for the header, the walk and options as bytes: each function stands for one of the library,
-// takes numbers and slices, and answers a plain struct by value. The boundary is several crates, an object each: here nothing but
+// takes numbers and slices, and answers a plain struct by value. The boundary is several crates, an archive each: here nothing but
 // `sindovaleph_step` reaches the walk, and nothing but `sindovaleph_write_bytes` the writing of a value, so the compiler makes one piece of
 // each.
 ghost use mathlib.Core.Path.{_≡_};
@@ -17,7 +17,7 @@ use crossing::answers::Written;
 use header::Fields;
 use header::Header;
 
-// The version of the boundary. Its name carries the number, and all who declare the boundary name it: an archive of another version does
+// The version of the boundary. Its name carries the number, and all who declare the boundary name it: a library of another version does
 // not link.
 #[no_mangle]
 pub extern "C" fn sindovaleph_boundary_1() -> u32
