@@ -1,8 +1,7 @@
 /*
  * DHCP messages, read and written: the library's boundary for C and C++, on x86-64 Linux.
  *
- * Link libsindovaleph.a and, where their functions are called, libsindovaleph_typed.a, _elements.a, _rows.a,
- * _typed_rows.a and _lines.a beside it; ./archives in the repository's root builds them in target/staticlib.
+ * Link libsindovaleph.a, which a package has in lib; ./archives in the repository's root builds it in target/library.
  *
  * Every function takes whatever bytes, lengths and places it is lent and ends with an answer or the number of a
  * refusal. It needs valid memory and no more: each pointer has as many elements as the length behind it says, and may be
@@ -21,6 +20,21 @@
 
 #ifdef __cplusplus
 extern "C" {
+#endif
+
+/* The version of the boundary. Its name carries the number, and each file that includes this header names it, where
+   the compiler can be told so: a library of another version does not link. */
+#define SINDOVALEPH_BOUNDARY sindovaleph_boundary_1
+
+/* The number of the version. */
+uint32_t SINDOVALEPH_BOUNDARY(void);
+
+#ifdef __has_attribute
+#if __has_attribute(retain)
+static uint32_t (*const sindovaleph_boundary)(void) __attribute__((used, retain)) = SINDOVALEPH_BOUNDARY;
+#elif __has_attribute(used)
+static uint32_t (*const sindovaleph_boundary)(void) __attribute__((used)) = SINDOVALEPH_BOUNDARY;
+#endif
 #endif
 
 /* The refusals. */
@@ -183,7 +197,7 @@ typedef struct {
     uint32_t gateway;
 } SindovalephRoute;
 
-/* libsindovaleph.a: the header, the walk, options as bytes. */
+/* The header, the walk, options as bytes. */
 
 /* All fields of the header. */
 SindovalephFields sindovaleph_header(const uint8_t *message, size_t message_len);
@@ -207,7 +221,7 @@ SindovalephWritten sindovaleph_write_bytes(uint8_t *room, size_t room_len, size_
 /* Writes End. */
 SindovalephWritten sindovaleph_close(uint8_t *room, size_t room_len, size_t place);
 
-/* libsindovaleph_rows.a: all options in one call. */
+/* All options in one call. */
 
 /* Lists the options from a place on, a SindovalephRow for each, until the first stop or until the rows are full. */
 SindovalephListed sindovaleph_list(const uint8_t *area, size_t area_len, size_t place, size_t *rows, size_t numbers);
@@ -218,13 +232,13 @@ SindovalephListed sindovaleph_list(const uint8_t *area, size_t area_len, size_t 
 SindovalephWrittenRows sindovaleph_write_list(uint8_t *room, size_t room_len, size_t place, const size_t *rows,
                                               size_t numbers, const uint8_t *values, size_t values_len);
 
-/* libsindovaleph_typed_rows.a: the same with what each option reads as. */
+/* The same with what each option reads as. */
 
 /* Lists them plainly or strictly, a SindovalephReadRow for each. */
 SindovalephListed sindovaleph_read_list(const uint8_t *area, size_t area_len, size_t place, size_t *rows,
                                         size_t numbers, bool strict);
 
-/* libsindovaleph_typed.a: typed values. */
+/* Typed values. */
 
 /* What the value of an option with this code reads as, plainly or strictly. */
 SindovalephValue sindovaleph_read(uint8_t code, const uint8_t *value, size_t value_len, bool strict);
@@ -259,12 +273,12 @@ SindovalephWritten sindovaleph_write_codes(uint8_t *room, size_t room_len, size_
 SindovalephWritten sindovaleph_write_routes(uint8_t *room, size_t room_len, size_t place,
                                             const SindovalephRoute *routes, size_t count);
 
-/* libsindovaleph_elements.a: lists, element by element. */
+/* Lists, element by element. */
 
 /* The element at an index of a list. */
 SindovalephElement sindovaleph_element(uint8_t code, const uint8_t *value, size_t value_len, size_t index);
 
-/* libsindovaleph_lines.a: the listing of a message as text. */
+/* The listing of a message as text. */
 
 /* Writes it at a place of a room. At place 0 a room of 65,535 bytes, the most that a room may have, takes the listing of
    any message; a listing that does not fit is refused with 8. The listing of a message that is too short or has more

@@ -204,6 +204,7 @@ mod boundary {
     use super::*;
 
     unsafe extern "C" {
+        pub safe fn sindovaleph_boundary_1() -> u32;
         pub fn sindovaleph_header(message: *const u8, message_len: usize) -> Fields;
         pub fn sindovaleph_xid(message: *const u8, message_len: usize) -> Field;
         pub safe fn sindovaleph_kind_of(code: u8) -> u8;
@@ -334,6 +335,11 @@ mod boundary {
 }
 
 use boundary::*;
+
+// The version of the boundary that is declared here: every program with this crate in it names it, so that it does not
+// link with a library of another version.
+#[used]
+static BOUNDARY: extern "C" fn() -> u32 = sindovaleph_boundary_1;
 
 // SAFETY, of every call below: the proved side takes any numbers and any bytes, so a call needs valid slices and
 // nothing else. References are that, with their own lengths, for as long as the call lasts; the proved side keeps none

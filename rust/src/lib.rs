@@ -160,9 +160,10 @@
 //!
 //! # Building
 //!
-//! `./archives` in the repository's root builds the static libraries for x86-64 Linux in `target/staticlib`, where this
-//! crate finds them; the environment variable `SINDOVALEPH_LIBRARY` names another folder. `include/sindovaleph.h` is
-//! the same boundary for C.
+//! The crate links one static library for x86-64 Linux, `libsindovaleph.a`. A package has it in `lib`; in the repository
+//! `./archives` builds it in `target/library`. The crate finds both by itself; the environment variable
+//! `SINDOVALEPH_LIBRARY` names another folder, by its whole path. A library of another version of the boundary than the
+//! crate's is refused. `sindovaleph.h` is the same boundary for C.
 #![no_std]
 #![deny(missing_docs, unsafe_code)]
 

@@ -1,5 +1,5 @@
 //! The header for C and C++: it compiles by itself without a warning, its numbers are those of this crate, the examples
-//! walk and write, and NULL with length 0 is an empty slice.
+//! walk and write, NULL with length 0 is an empty slice, and a header of another version does not link.
 
 mod common;
 
@@ -110,13 +110,18 @@ fn the_names_of_the_header_have_the_same_numbers() {
     compiles(c_compiler().arg("-std=c11"), "numbers.c", &text);
 }
 
-/// What a program of one source prints, linked with these archives.
-fn printed_by(source: &str, archives: &[&str]) -> String {
-    let program = scratch(&source.replace(['/', '.'], "-"), "");
+/// The compiler that makes a program of sources, with the header of a folder and with the library.
+fn linking(program: &Path, include: &Path, sources: &[PathBuf]) -> Command {
     let mut compiler = c_compiler();
-    compiler.args(WARNINGS).arg("-I").arg(here("include")).arg(here(source));
-    compiler.args(archives.iter().map(|name| Path::new(env!("SINDOVALEPH_FOLDER")).join(name)));
-    succeeded(compiler.arg("-o").arg(&program));
+    compiler.args(WARNINGS).arg("-I").arg(include).args(sources);
+    compiler.arg(Path::new(env!("SINDOVALEPH_FOLDER")).join("libsindovaleph.a")).arg("-o").arg(program);
+    compiler
+}
+
+/// What a program of one source prints.
+fn printed_by(source: &str) -> String {
+    let program = scratch(&source.replace(['/', '.'], "-"), "");
+    succeeded(&mut linking(&program, &here("include"), &[here(source)]));
     let runner = "CARGO_TARGET_X86_64_UNKNOWN_LINUX_GNU_RUNNER";
     let path = program.to_string_lossy();
     let mut run = command(runner, &path);
@@ -128,13 +133,13 @@ fn printed_by(source: &str, archives: &[&str]) -> String {
 
 #[test]
 fn the_example_walks() {
-    let printed = printed_by("examples/walk.c", &["libsindovaleph.a"]);
+    let printed = printed_by("examples/walk.c");
     assert_eq!(printed, "option 53 has 1 bytes\noption 12 has 4 bytes\nstop 2 at 12\n");
 }
 
 #[test]
 fn the_example_writes_all_rows_or_none() {
-    let printed = printed_by("examples/rows.c", &["libsindovaleph_rows.a", "libsindovaleph.a"]);
+    let printed = printed_by("examples/rows.c");
     let untouched = " 9".repeat(18);
     let first = format!("row 1 is refused by 6, place 2:{untouched}\n");
     let second = format!("row 2 is refused by 8, place 2:{untouched}\n");
@@ -151,12 +156,37 @@ fn lending_functions() -> BTreeSet<String> {
 
 #[test]
 fn null_with_length_0_is_an_empty_slice() {
-    let archives = ["", "_typed", "_elements", "_rows", "_typed_rows", "_lines"];
-    let archives = archives.map(|name| format!("libsindovaleph{name}.a"));
-    let printed = printed_by("tests/null.c", &archives.each_ref().map(String::as_str));
+    let printed = printed_by("tests/null.c");
     let lines: Vec<&str> = printed.lines().collect();
     let (there, nowhere) = lines.split_at(lines.len() / 2);
     assert_eq!(there, nowhere);
     let called: BTreeSet<String> = there.iter().filter_map(|line| Some(line.split_once(' ')?.0.into())).collect();
     assert_eq!(called, lending_functions());
+}
+
+/// A folder with the header of another version, and the name that it has.
+fn another_version() -> (PathBuf, String) {
+    let text = fs::read_to_string(here("include/sindovaleph.h")).expect("the header can be read");
+    let text = text.replace("sindovaleph_boundary_", "sindovaleph_boundary_9");
+    let (_, name) = text.split_once("#define SINDOVALEPH_BOUNDARY ").expect("the header names its version");
+    let name = name.lines().next().unwrap_or_default().to_string();
+    let folder = Path::new(env!("CARGO_TARGET_TMPDIR")).join("another-version");
+    fs::create_dir_all(&folder).expect("the tests' folder can be written to");
+    fs::write(folder.join("sindovaleph.h"), text).expect("the tests' folder can be written to");
+    (folder, name)
+}
+
+#[test]
+fn a_header_of_another_version_does_not_link() {
+    let (another, name) = another_version();
+    let program = scratch("versions", "");
+    // Two files that include it; the second calls nothing.
+    let sources = [here("examples/walk.c"), scratch("second.c", "#include \"sindovaleph.h\"\n")];
+    let dropping = ["-O2", "-ffunction-sections", "-fdata-sections", "-Wl,--gc-sections"];
+    for words in [&[][..], &dropping[..]] {
+        succeeded(linking(&program, &here("include"), &sources).args(words));
+        let output = linking(&program, &another, &sources).args(words).output().expect("the compiler runs");
+        let said = String::from_utf8_lossy(&output.stderr);
+        assert!(!output.status.success() && said.contains(&name), "{words:?} links, or says nothing of {name}: {said}");
+    }
 }

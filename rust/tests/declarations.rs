@@ -1,6 +1,6 @@
 //! The declarations of the boundary, which stand three times: in the sources of Rattle, in calls.rs and in the header
-//! for C. The texts are held against each other, the compiler's layout against the numbers, and calls with a number of
-//! its own in every field against what comes back.
+//! for C. The texts are held against each other and against the boundary's version, the compiler's layout against the
+//! numbers, and calls with a number of its own in every field against what comes back.
 
 mod common;
 
@@ -173,8 +173,11 @@ fn c_parameter(text: &str) -> (String, String) {
     }
 }
 
+/// The header, with the name of its version in place.
 fn header_text() -> String {
-    without_c_comments(&text_of(&here("include/sindovaleph.h")))
+    let text = text_of(&here("include/sindovaleph.h"));
+    let version = between(&text, "#define SINDOVALEPH_BOUNDARY ", "\n").expect("the header names its version").0;
+    without_c_comments(&text).replace("SINDOVALEPH_BOUNDARY", version)
 }
 
 fn c_structs() -> Structs {
@@ -190,9 +193,13 @@ fn c_structs() -> Structs {
 fn c_functions() -> Functions {
     let one = |declaration: &str| {
         let (start, rest) = declaration.split_once('(')?;
+        // A variable of the header's own, which refers to a function.
+        if start.trim().starts_with("static ") {
+            return None;
+        }
         let (answer, name) = start.trim().rsplit_once(char::is_whitespace)?;
         let answer = from_c(answer.split_whitespace().next_back()?);
-        let parameters = rest.split_once(')')?.0.split(',').map(c_parameter).collect();
+        let parameters = rest.split_once(')')?.0.split(',').filter(|one| *one != "void").map(c_parameter).collect();
         Some((name.to_string(), Function { parameters, answer }))
     };
     with_lengths(header_text().split(';').filter_map(one).collect())
@@ -210,7 +217,7 @@ fn assert_each_stands<T: PartialEq + std::fmt::Debug>(of: &BTreeMap<String, T>, 
 #[test]
 fn the_declarations_are_found() {
     assert_eq!(rust_structs().len(), 12);
-    assert_eq!(rust_functions().len(), 29);
+    assert_eq!(rust_functions().len(), 30);
     assert!(rattle_structs().len() >= 5 && rattle_functions().len() >= 22, "the parser finds what stands there");
 }
 
@@ -247,6 +254,41 @@ fn the_header_has_the_same_structs() {
 fn the_header_has_the_same_functions() {
     assert_each_stands(&rust_functions(), &c_functions());
     assert_each_stands(&c_functions(), &rust_functions());
+}
+
+/// The version of the boundary, by its name, and the fingerprint of what is declared under it.
+const VERSION: (&str, u64) = ("sindovaleph_boundary_1", 0x7CE8_4474_1B8A_C4DB);
+
+const VERSION_BEGINS: &str = "sindovaleph_boundary_";
+
+/// All that is declared besides the version, a line each.
+fn declared() -> String {
+    let list = |named: &Named| named.iter().map(|(name, kind)| format!("{name}: {kind}, ")).collect::<String>();
+    let structs = rust_structs().into_iter().map(|(name, fields)| format!("{name} {}\n", list(&fields)));
+    let mut functions = rust_functions();
+    functions.retain(|name, _| !name.starts_with(VERSION_BEGINS));
+    let functions = functions.into_iter().map(|(name, of)| format!("{name} {}{}\n", list(&of.parameters), of.answer));
+    structs.chain(functions).collect()
+}
+
+/// FNV-1a, which is another number for another text.
+fn fingerprint(text: &str) -> u64 {
+    text.bytes().fold(0xCBF2_9CE4_8422_2325, |sum, byte| (sum ^ u64::from(byte)).wrapping_mul(0x0100_0000_01B3))
+}
+
+#[test]
+fn the_version_is_counted_up_with_the_declarations() {
+    let versions: Vec<String> = rust_functions().into_keys().filter(|name| name.starts_with(VERSION_BEGINS)).collect();
+    assert_eq!(versions, [VERSION.0]);
+    let number = VERSION.0.trim_start_matches(VERSION_BEGINS);
+    let definition = text_of(&here("../crates/sindovaleph/specs/Boundary.antt"));
+    assert!(definition.contains(&format!("\nversion = {number}\n")), "the definition has the number of the name");
+    let found = fingerprint(&declared());
+    assert_eq!(
+        found, VERSION.1,
+        "what crosses the boundary has changed: count its version up, the number behind {VERSION_BEGINS} in \
+         crates/sindovaleph, src/calls.rs and include/sindovaleph.h, and put it here with the fingerprint {found:#X}"
+    );
 }
 
 #[test]

@@ -4,6 +4,8 @@ use mathlib.Core.Path.{sym, _∙_}
 use denote.Ref.{now}
 use Rattle.facts.proofs.Unique.{Unique, UniqueLeft}
 use Rattle.crossing.proofs.Carries.{wrote-one}
+use Rattle.sindovaleph.proofs.sindovaleph_boundary_1.Kinds as boundary-kinds
+use Rattle.sindovaleph.proofs.sindovaleph_boundary_1.Reads as boundary
 use Rattle.sindovaleph.proofs.sindovaleph_header.Kinds as header-kinds
 use Rattle.sindovaleph.proofs.sindovaleph_header.Reads as header
 use Rattle.sindovaleph.proofs.sindovaleph_xid.Kinds as xid-kinds
@@ -18,6 +20,9 @@ use Rattle.sindovaleph.proofs.sindovaleph_write_bytes.Kinds as write-by
 use Rattle.sindovaleph.proofs.sindovaleph_write_bytes.Reads as write-bytes
 use Rattle.sindovaleph.proofs.sindovaleph_close.Kinds as close-kinds
 use Rattle.sindovaleph.proofs.sindovaleph_close.Reads as close
+
+boundary-unique : Unique 0 boundary-kinds.ps boundary-kinds.r boundary.Post
+boundary-unique κs a x y s t p q = p ∙ sym q
 
 header-unique : Unique 1 header-kinds.ps header-kinds.r header.Post
 header-unique κs a x y s t p q = p ∙ sym q

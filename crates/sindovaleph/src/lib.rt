@@ -9,12 +9,22 @@ ghost use Rattle.rfc.specs.Text.{utf8};
 ghost use Rattle.rfc.specs.Writing.{writeBytes, close};
 ghost use Rattle.header.specs.Header.{allOf};
 ghost use Rattle.crossing.specs.Carried.{fieldOf, Stepped, Wrote};
+ghost use Rattle.sindovaleph.specs.Boundary.{version};
 use borrowed::answer::First;
 use crossing::answers::Field;
 use crossing::answers::Step;
 use crossing::answers::Written;
 use header::Fields;
 use header::Header;
+
+// The version of the boundary. Its name carries the number, and all who declare the boundary name it: a library of another version does
+// not link.
+#[no_mangle]
+pub extern "C" fn sindovaleph_boundary_1() -> u32
+    ensures { λ r. ⌜ r ≡ version ⌝ }
+{
+    1
+}
 
 // All fields of the header.
 #[no_mangle]
