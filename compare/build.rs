@@ -31,15 +31,25 @@ fn built(compiler: &str, source: &str, words: &[&str], to: &Path) -> Result<Stri
     Ok(format!("{}, -O2", said(Command::new(compiler).arg("--version"))?))
 }
 
+/// The limit as a static library, and by which compiler. It is linked with the comparison's own library, and so with programs that
+/// have the proved one beside it, whose version it names.
+fn limit_library(compiler: &str) -> Result<String, String> {
+    let object = made("limit.o");
+    let built_by = built(compiler, "limit/limit.c", &["-I", "../rust/include", "-c"], &object)?;
+    let archiver = said(Command::new(compiler).arg("-print-prog-name=ar"))?;
+    said(Command::new(archiver).arg("crs").arg(made("liblimit.a")).arg(&object))?;
+    Ok(built_by)
+}
+
 /// The limit, by the compiler that CC names, or else the one for x86-64 Linux.
 fn limit() {
     let compiler = env::var("CC").unwrap_or(if native() { "cc" } else { "x86_64-linux-gnu-gcc" }.into());
-    let object = made("limit.o");
-    match built(&compiler, "limit/limit.c", &["-I", "../rust/include", "-c"], &object) {
+    match limit_library(&compiler) {
         Ok(compiler) => {
             println!("cargo::rustc-cfg=limit");
             println!("cargo::rustc-env=LIMIT_COMPILER={compiler}");
-            println!("cargo::rustc-link-arg={}", object.display());
+            println!("cargo::rustc-link-search=native={}", made("").display());
+            println!("cargo::rustc-link-lib=static=limit");
         }
         Err(why) => println!("cargo::rustc-env=NO_LIMIT={why}"),
     }
