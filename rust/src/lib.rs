@@ -31,7 +31,7 @@
 //!     }
 //! }
 //! if !opts.is_closed() {
-//!     println!("the message is cut: {:?} at {}", opts.ending(), opts.place());
+//!     println!("cut, or never closed: {:?} at {}", opts.ending(), opts.place());
 //! }
 //! # assert!(opts.is_closed());
 //! # Ok::<(), Refusal>(())
