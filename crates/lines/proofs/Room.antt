@@ -1,12 +1,12 @@
 -- How long a listing is at the most: an option's line has 33 characters or fewer for each two bytes of the area that it takes.
 -- Assumes nothing.
-use mathlib.Core.Path.{_≡_, refl, sym, subst}
+use mathlib.Core.Path.{_≡_, refl, subst}
 use Prim.Native.Nat.{ℕ, suc, zero, _+_, _-_, _*_, _^_, _≤_, _<_}
 use native.Mathlib.Omega.{arith}
-use native.Mathlib.Decide.{decLe, decLt, ℕ-discrete}
+use native.Mathlib.Decide.{decLe, decLt}
 use mathlib.Core.Bool.{Bool, true, false}
-use mathlib.Core.List.{List, [], _∷_, _++_}
-use lib.ListN.{length, take, drop, getD, length-append, length-take, length-drop, take-append-drop}
+use mathlib.Core.List.{List, _++_}
+use lib.ListN.{length, drop, length-append, length-take, length-drop}
 use lib.Seq.{length-take-le}
 use borrow.Author.Tests.{lt-ltb, le-ltb}
 use Rattle.facts.specs.BigEndian.{number}
@@ -15,57 +15,19 @@ use Rattle.rfc.specs.Numbers.{Answer, given, refused, needs, mostBytes, leastMe
 use Rattle.rfc.specs.Header as header
 use Rattle.rfc.specs.Header.{bytesOf}
 use Rattle.rfc.specs.Walk as walk
-use Rattle.rfc.specs.Walk.{further, run}
 use Rattle.rfc.specs.Kinds.{kindOf}
 use Rattle.rfc.specs.Lists.{Bytes}
 use Rattle.rfc.proofs.Numbers.{Clear, short, not-short}
 use Rattle.rfc.proofs.Codes.{kind-below}
 use Rattle.rfc.proofs.Header.{message-read, chaddr-cut, chaddr-given, area-wrong, area-given}
 use Rattle.rfc.proofs.Walk.{step-walked}
-use Rattle.rfc.proofs.Finding.{bytes-drop}
-use Rattle.rfc.proofs.Lists.{byte-below}
-use Rattle.rfc.proofs.Places.{option-takes, walk-stands, next-at, run-none, further-none-at, further-other-at}
+use Rattle.rfc.proofs.Bytes.{byte-below, bytes-part}
+use Rattle.rfc.proofs.Places.{option-takes, walk-stands, values-bytes, code-byte}
 use Rattle.pen.specs.Texts.{space, named}
 use Rattle.pen.proofs.Lengths.{Most, word-most, both-most, decimal-below, decimal-most, decimal-small, spaced-most}
 use Rattle.lines.specs.Words as words
 use Rattle.lines.specs.Words.{newline}
 use Rattle.lines.specs.Listing.{mostListed, messageLine, refusedLine, addressText, chaddrLine, optionLine, stopWord, stopLine, onward, linesIn, areaLines, listing}
-
--- Bytes: some of them, and joined
-bytes-take : (n : ℕ) (l : List ℕ) → Bytes l → Bytes (take n l)
-bytes-take zero l h = tt
-bytes-take (suc n) [] h = tt
-bytes-take (suc n) (b ∷ l) h = (h .0, bytes-take n l (h .1))
-
-bytes-joined : (a b : List ℕ) → Bytes a → Bytes b → Bytes (a ++ b)
-bytes-joined [] b h g = g
-bytes-joined (x ∷ a) b h g = (h .0, bytes-joined a b (h .1) g)
-
-bytes-part : (p : header.Part) (message : List ℕ) → Bytes message → Bytes (bytesOf p message)
-bytes-part p message h = bytes-take (p .len) (drop (p .start) message) (bytes-drop (p .start) message h)
-
--- the values of parts that stand in bytes are bytes
-module _ (area : List ℕ) (bytes : Bytes area) where
-  values-bytes : (n i code : ℕ) (vs : List ℕ) → further code (drop i area) ≡ run n vs → Bytes vs
-  values-bytes zero i code vs e = subst Bytes (sym (run-none code (drop i area) vs e)) tt
-  values-bytes (suc m) i code vs e =
-      let next = next-at area i code m vs e in
-      let k = getD area (i + 1) 0 in
-      let front = subst Bytes (sym (next .here)) (bytes-take k (drop (i + 2) area) (bytes-drop (i + 2) area bytes)) in
-      let rest = values-bytes m (i + 2 + k) code (drop k vs) (next .there) in
-      subst Bytes (take-append-drop k vs) (bytes-joined (take k vs) (drop k vs) front rest)
-
-  -- and their code is one
-  code-byte : (n i code : ℕ) (vs : List ℕ) → 1 ≤ n → further code (drop i area) ≡ run n vs → code < 256
-  code-byte n i code vs some e = go (decLt i (length area)) (ℕ-discrete (getD area i 0) code)
-    where
-      none : further code (drop i area) ≡ run 0 [] → code < 256
-      none f = let z : 0 ≡ n = cc in absurd (omega arith)
-
-      go : Dec (i < length area) → Dec (getD area i 0 ≡ code) → code < 256
-      go (no h) _ = none (further-none-at area i code (omega arith))
-      go (yes h) (no k) = none (further-other-at area i code h k)
-      go (yes h) (yes k) = subst (λ (x : ℕ). x < 256) k (byte-below area bytes i)
 
 -- The lines
 number-most : (word : List ℕ) (n : ℕ) → Most (named word n) (length word + 20)

@@ -13,7 +13,7 @@ use Rattle.facts.proofs.Signs.{unsigned-back}
 use Rattle.rfc.specs.Numbers.{given}
 use Rattle.rfc.specs.Values.{integer, Value, Mode, read}
 use Rattle.rfc.proofs.Codes.{seconds-kind}
-use Rattle.rfc.proofs.Lists.{byte-below}
+use Rattle.rfc.proofs.Bytes.{byte-below}
 use Rattle.rfc.proofs.Values.{i32, scalar-value}
 use Rattle.rfc.proofs.Readings.{strict-plain, read-right}
 use Rattle.rfc.proofs.Readback.{seconds-back}

@@ -15,14 +15,10 @@ use borrow.Author.Tests.{eq-eqb, ne-eqb, le-leb, lt-leb}
 use Rattle.rfc.specs.Numbers.{padCode, endCode}
 use Rattle.rfc.specs.Walk.{Stop, out, end, cutLength, cutValue, cutContinuation, Found, stop, option, Run, cut, run, extend, furtherIn, further, joined, behind, walk}
 use Rattle.rfc.specs.Lists.{Bytes}
+use Rattle.rfc.proofs.Bytes.{bytes-drop}
 use Rattle.rfc.proofs.Walk.{extend-run, further-more}
 
 -- what the parts at the front of a list are: they lie within it; of bytes, each has no more than 255; and no parts have no bytes
-pub bytes-drop : (n : ℕ) (l : List ℕ) → Bytes l → Bytes (drop n l)
-bytes-drop zero l h = h
-bytes-drop (suc n) [] h = h
-bytes-drop (suc n) (b ∷ l) h = bytes-drop n l (h .1)
-
 abbrev pub Lies : List ℕ → Run → Type 0
 Lies rest cut = Unit {0}
 Lies rest (run n vs) = (2 * n + length vs ≤ length rest) × (Bytes rest → length vs ≤ 255 * n) × (n ≡ 0 → vs ≡ [])

@@ -1,4 +1,5 @@
 pub mod Numbers
+pub mod Bytes
 pub mod Header
 pub mod Walk
 pub mod Finding

@@ -1,11 +1,11 @@
--- The laws of `specs/Lists.antt`: a list of options is written as its bytes, and its bytes are walked as the list; lists of bytes.
+-- The laws of `specs/Lists.antt`: a list of options is written as its bytes, and its bytes are walked as the list.
 -- Assumes nothing.
 use mathlib.Core.Path.{_≡_, refl, sym, ap, _∙_}
 use Prim.Native.Nat.{ℕ, suc, zero, _+_, _≤_, _<_}
 use native.Mathlib.Omega.{arith}
 use native.Mathlib.Nat.{not-suc-le-zero, le-refl}
 use mathlib.Core.List.{List, [], _∷_, _++_, append-assoc, append-nil}
-use lib.ListN.{length, drop, getD, length-append, length-drop}
+use lib.ListN.{length, drop, length-append, length-drop}
 use lib.Dec.{lit<}
 use lib.Seq.{drop-append-seam, drop-drop}
 use Rattle.facts.specs.Over.{over}
@@ -14,16 +14,10 @@ use Rattle.facts.proofs.Over.{over-over, length-over}
 use Rattle.rfc.specs.Numbers.{Answer, given, refused, andThen, mostBytes, mostValue, mostPart, padCode, endCode}
 use Rattle.rfc.specs.Walk.{Stop, Found, stop, option, end, run, further, step}
 use Rattle.rfc.specs.Writing.{encode, Write, answerTo, roomAfter, writeBytes, close}
-use Rattle.rfc.specs.Lists.{Opt, Good, Differs, Valid, Bytes, encodeAll, Made, does, finished, writeAll, Listing, onward, listIn, listing}
+use Rattle.rfc.specs.Lists.{Opt, Good, Differs, Valid, encodeAll, Made, does, finished, writeAll, Listing, onward, listIn, listing}
 use Rattle.rfc.proofs.Walk.{further-other, walk-end, stop-answered, answered, step-walks}
 use Rattle.rfc.proofs.Writing.{encode-more, close-given, close-left, bytes-given, bytes-left}
 use Rattle.rfc.proofs.Parts.{walk-value}
-
--- a byte at any place of a list of bytes
-pub byte-below : (v : List ℕ) → Bytes v → (i : ℕ) → getD v i 0 < 256
-byte-below [] b i = lit< tt
-byte-below (x ∷ v) b zero = b .0
-byte-below (x ∷ v) b (suc i) = byte-below v (b .1) i
 
 some-part : 0 < mostPart
 some-part = lit< tt

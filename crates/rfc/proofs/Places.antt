@@ -2,17 +2,18 @@
 -- option which the walk finds stands in the area.
 -- Assumes nothing.
 use mathlib.Core.Path.{_≡_, refl, sym, ap, _∙_, subst}
-use Prim.Native.Nat.{ℕ, suc, _+_, _-_, _*_, _≤_, _<_}
+use Prim.Native.Nat.{ℕ, suc, zero, _+_, _-_, _*_, _≤_, _<_}
 use native.Mathlib.Omega.{arith}
 use native.Mathlib.Numerals.{add-one, add-two}
 use mathlib.Core.List.{List, [], _∷_, _++_}
-use lib.ListN.{length, take, drop, getD, length-drop, length-append, drop-of-length-le}
+use lib.ListN.{length, take, drop, getD, length-drop, length-append, drop-of-length-le, take-append-drop}
 use lib.Seq.{drop-cons, drop-drop, take-append-seam, drop-append-seam, length-take-le, take-length}
 use native.Mathlib.Decide.{decLe, decLt, ℕ-discrete}
 use Rattle.rfc.specs.Numbers.{given, padCode, endCode, mostBytes}
 use Rattle.rfc.specs.Walk.{Stop, out, end, cutLength, cutValue, Found, stop, option, Run, cut, run, extend, further, joined, walk, roomFor, look, step}
 use Rattle.rfc.specs.Lists.{Bytes}
-use Rattle.rfc.proofs.Finding.{bytes-drop, lies, Halts, at-end, Finds, finds}
+use Rattle.rfc.proofs.Bytes.{byte-below, bytes-drop, bytes-take, bytes-joined}
+use Rattle.rfc.proofs.Finding.{lies, Halts, at-end, Finds, finds}
 use Rattle.rfc.proofs.Walk.{look-walked, step-walks, stop-answered, answered, further-none, further-other, further-no-length, further-no-value, further-more, walk-out, walk-pad, walk-end, walk-code, behind-none, behind-short, behind-whole}
 
 module _ (area : List ℕ) (i : ℕ) where
@@ -228,6 +229,29 @@ module _ (area : List ℕ) (code : ℕ) (v : List ℕ) (n at : ℕ) where
   -- of bytes, a part holds at most 255
   pub stands-small : Stands area code v n at → Bytes area → length v ≤ 255 * n
   stands-small s bytes = lies code _ n v (s .parts) .1 (bytes-drop (at - (2 * n + length v)) area bytes)
+
+-- the values of parts that stand in bytes are bytes
+module _ (area : List ℕ) (bytes : Bytes area) where
+  pub values-bytes : (n i code : ℕ) (vs : List ℕ) → further code (drop i area) ≡ run n vs → Bytes vs
+  values-bytes zero i code vs e = subst Bytes (sym (run-none code (drop i area) vs e)) tt
+  values-bytes (suc m) i code vs e =
+      let next = next-at area i code m vs e in
+      let k = getD area (i + 1) 0 in
+      let front = subst Bytes (sym (next .here)) (bytes-take k (drop (i + 2) area) (bytes-drop (i + 2) area bytes)) in
+      let rest = values-bytes m (i + 2 + k) code (drop k vs) (next .there) in
+      subst Bytes (take-append-drop k vs) (bytes-joined (take k vs) (drop k vs) front rest)
+
+  -- and their code is one
+  pub code-byte : (n i code : ℕ) (vs : List ℕ) → 1 ≤ n → further code (drop i area) ≡ run n vs → code < 256
+  code-byte n i code vs some e = go (decLt i (length area)) (ℕ-discrete (getD area i 0) code)
+    where
+      none : further code (drop i area) ≡ run 0 [] → code < 256
+      none f = let z : 0 ≡ n = cc in absurd (omega arith)
+
+      go : Dec (i < length area) → Dec (getD area i 0 ≡ code) → code < 256
+      go (no h) _ = none (further-none-at area i code (omega arith))
+      go (yes h) (no k) = none (further-other-at area i code h k)
+      go (yes h) (yes k) = subst (λ (x : ℕ). x < 256) k (byte-below area bytes i)
 
 -- with room for as many bytes as the area has, everything is joined
 pub all-joins : (area : List ℕ) (place room : ℕ) → length area ≤ mostBytes → place ≤ length area → length area ≤ room

@@ -1,0 +1,31 @@
+-- Lists of bytes (`Bytes` of `specs/Lists.antt`): what is taken out of one, or made of two, is one too.
+-- Assumes nothing.
+use Prim.Native.Nat.{ℕ, suc, zero, _<_}
+use mathlib.Core.List.{List, [], _∷_, _++_}
+use lib.ListN.{take, drop, getD}
+use lib.Dec.{lit<}
+use Rattle.rfc.specs.Header.{Part, bytesOf}
+use Rattle.rfc.specs.Lists.{Bytes}
+
+-- a byte at any place
+pub byte-below : (v : List ℕ) → Bytes v → (i : ℕ) → getD v i 0 < 256
+byte-below [] b i = lit< tt
+byte-below (x ∷ v) b zero = b .0
+byte-below (x ∷ v) b (suc i) = byte-below v (b .1) i
+
+pub bytes-drop : (n : ℕ) (l : List ℕ) → Bytes l → Bytes (drop n l)
+bytes-drop zero l h = h
+bytes-drop (suc n) [] h = h
+bytes-drop (suc n) (b ∷ l) h = bytes-drop n l (h .1)
+
+pub bytes-take : (n : ℕ) (l : List ℕ) → Bytes l → Bytes (take n l)
+bytes-take zero l h = tt
+bytes-take (suc n) [] h = tt
+bytes-take (suc n) (b ∷ l) h = (h .0, bytes-take n l (h .1))
+
+pub bytes-joined : (a b : List ℕ) → Bytes a → Bytes b → Bytes (a ++ b)
+bytes-joined [] b h g = g
+bytes-joined (x ∷ a) b h g = (h .0, bytes-joined a b (h .1) g)
+
+pub bytes-part : (p : Part) (message : List ℕ) → Bytes message → Bytes (bytesOf p message)
+bytes-part p message h = bytes-take (p .len) (drop (p .start) message) (bytes-drop (p .start) message h)
