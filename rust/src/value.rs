@@ -140,8 +140,8 @@ pub fn read(code: u8, value: &[u8]) -> Result<Value<'_>, Refusal> {
     read_as(code, value, false)
 }
 
-/// Reads a value by its code, and refuses what the RFCs do not allow: numbers, addresses, bytes and flags have exactly
-/// their length, and a yes/no byte is 0 or 1. All else is as in [`read`].
+/// Reads a value by its code, and asks for more: numbers, addresses, bytes and flags have exactly their length, and a
+/// yes/no byte is 0 or 1. All else is as in [`read`].
 #[inline]
 pub fn read_strict(code: u8, value: &[u8]) -> Result<Value<'_>, Refusal> {
     read_as(code, value, true)
