@@ -267,7 +267,7 @@ fn filled(numbers: &mut [u32], addresses: impl Iterator<Item = Ipv4Addr>) -> &[u
 /// An option to be written: its code, and where its value stands in the values that are lent with it.
 #[repr(transparent)]
 #[derive(Clone, Copy, Default, PartialEq, Eq)]
-pub struct WriteRow(pub(crate) calls::WriteRow);
+pub struct WriteRow(calls::WriteRow);
 
 impl WriteRow {
     /// An option with this code, whose value is `len` bytes of the values from `start` on.

@@ -40,6 +40,7 @@ fn list(message: &[u8]) {
     let mut text = [0u8; 65535];
     match lines::write_listing(&mut text, 0, message) {
         Written::To(len) => tell(borrowed::part(&text, 0, len), message.len()),
+        // This room takes every listing (`Room.AlwaysListed` of `calls`); a smaller one would be told here.
         Written::Refused(number) => {
             io::write_all(2, b"the listing is refused ");
             io::print_decimal(2, number as u64);

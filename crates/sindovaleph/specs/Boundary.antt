@@ -2,6 +2,6 @@
 -- Assumes nothing.
 use Prim.Native.Nat.{ℕ}
 
--- counted up with every change of a struct that crosses or of a function's parameters
+-- counted up whenever a struct or a function that crosses is added, changed or taken away
 abbrev pub version : ℕ
 version = 1
