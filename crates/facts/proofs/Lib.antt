@@ -14,3 +14,6 @@ pub mod Values
 pub mod Lending
 pub mod Walking
 pub mod Unique
+pub mod Distinct
+pub mod Marks
+pub mod Rows

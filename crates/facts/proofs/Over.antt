@@ -5,8 +5,9 @@ use Prim.Native.Nat.{ℕ, suc, _+_, _-_, _≤_, _<_}
 use native.Mathlib.Omega.{arith}
 use native.Mathlib.Nat.{add-zero}
 use mathlib.Core.List.{List, [], _∷_, _++_, append-assoc, append-nil}
-use lib.ListN.{length, take, drop, set, length-take, length-drop, length-append, take-append-drop, drop-of-length-le}
-use lib.Seq.{length-take-le, take-at, drop-at, take-add, drop-drop, set-split, append-snoc}
+use lib.ListN.{length, take, drop, getD, set, length-take, length-drop, length-append, take-append-drop, drop-of-length-le, List·getD-append}
+use lib.Seq.{length-take-le, take-append-le, drop-append-le, take-append-add, drop-append-add, take-at, drop-at, take-add, drop-drop}
+use lib.Seq.{set-split, append-snoc}
 use Rattle.facts.specs.Over.{over}
 
 head-length : (d : List ℕ) (at : ℕ) (s : List ℕ) → at ≤ length d → length (take at d ++ s) ≡ at + length s
@@ -58,6 +59,29 @@ over-over d at a b h =
     let k : at + length a + length b ≡ at + length (a ++ b) = omega (arith, length-append a b) in
     rw (take-at (take at d ++ a) rest (at + length a) l, ← (drop-drop (length b) (at + length a) (take at d ++ a ++ rest)))
     (rw (drop-at (take at d ++ a) rest (at + length a) l, drop-drop (length b) (at + length a) d, k, append-assoc (take at d) a b))
+
+-- a write behind a list, and one in it, where another stands behind
+pub over-behind : (a b : List ℕ) (n : ℕ) (s : List ℕ) → over (a ++ b) (length a + n) s ≡ a ++ over b n s
+unfolding over
+over-behind a b n s =
+    let k : length a + n + length s ≡ length a + (n + length s) = omega arith in
+    rw (k, take-append-add a b n, drop-append-add a b (n + length s)) (simp append-assoc)
+
+pub over-within : (a b : List ℕ) (n : ℕ) (s : List ℕ) → n + length s ≤ length a → over (a ++ b) n s ≡ over a n s ++ b
+unfolding over
+over-within a b n s h = rw (take-append-le n a b (omega arith), drop-append-le (n + length s) a b h) (simp append-assoc)
+
+-- a write in one at the front, and what that has at a place
+pub over-front : (d a : List ℕ) (n : ℕ) (s : List ℕ) → length a ≤ length d → n + length s ≤ length a
+    → over (over d 0 a) n s ≡ over d 0 (over a n s)
+unfolding over
+over-front d a n s h g =
+    over-within a (drop (0 + length a) d) n s g
+    ∙ ap (λ (k : ℕ). over a n s ++ drop (0 + k) d) (sym (length-over a n s g))
+
+pub front-at : (d a : List ℕ) (n : ℕ) → n < length a → getD (over d 0 a) n 0 ≡ getD a n 0
+unfolding over
+front-at d a n h = List·getD-append a (drop (0 + length a) d) 0 n h
 
 -- the next p of what is to be written, where n of it stand already: one turn of any loop that writes
 pub over-next : (d : List ℕ) (at : ℕ) (all p : List ℕ) (n : ℕ)

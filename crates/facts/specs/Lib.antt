@@ -2,3 +2,4 @@ pub mod Over
 pub mod Pieces
 pub mod Ranges
 pub mod BigEndian
+pub mod Distinct

@@ -13,6 +13,10 @@ byte-below [] b i = lit< tt
 byte-below (x ∷ v) b zero = b .0
 byte-below (x ∷ v) b (suc i) = byte-below v (b .1) i
 
+pub bytes-known : (v : List ℕ) → ((i : ℕ) → getD v i 0 < 256) → Bytes v
+bytes-known [] h = tt
+bytes-known (x ∷ v) h = (h 0, bytes-known v (λ i. h (suc i)))
+
 pub bytes-drop : (n : ℕ) (l : List ℕ) → Bytes l → Bytes (drop n l)
 bytes-drop zero l h = h
 bytes-drop (suc n) [] h = h
@@ -26,6 +30,10 @@ bytes-take (suc n) (b ∷ l) h = (h .0, bytes-take n l (h .1))
 pub bytes-joined : (a b : List ℕ) → Bytes a → Bytes b → Bytes (a ++ b)
 bytes-joined [] b h g = g
 bytes-joined (x ∷ a) b h g = (h .0, bytes-joined a b (h .1) g)
+
+pub bytes-front : (a b : List ℕ) → Bytes (a ++ b) → Bytes a
+bytes-front [] b h = tt
+bytes-front (x ∷ a) b h = (h .0, bytes-front a b (h .1))
 
 pub bytes-part : (p : Part) (message : List ℕ) → Bytes message → Bytes (bytesOf p message)
 bytes-part p message h = bytes-take (p .len) (drop (p .start) message) (bytes-drop (p .start) message h)

@@ -21,3 +21,13 @@ pub mod Readback
 pub mod Lists
 pub mod Fewest
 pub mod Endings
+pub mod Portions
+pub mod Listed
+pub mod Modes
+pub mod Sizes
+pub mod OfCode
+pub mod Indexed
+pub mod Naming
+pub mod Standing
+pub mod Overload
+pub mod Aggregate

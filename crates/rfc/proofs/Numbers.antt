@@ -1,6 +1,6 @@
 -- The laws of `specs/Numbers.antt`: what each test says, and which check decides.
 -- Assumes nothing.
-use mathlib.Core.Path.{_≡_, refl, sym, _∙_}
+use mathlib.Core.Path.{_≡_, refl, sym, subst, _∙_}
 use Prim.Native.Nat.{ℕ, zero, suc, _+_, _≤_, _<_}
 use mathlib.Core.Bool.{Bool, true, false}
 use mathlib.Core.List.{List, [], _∷_, _++_}
@@ -54,6 +54,13 @@ given-no a k e = let z : _≡_ {A = ℕ} 0 1 = cc in omega arith
 pub needs-no : {A : Type 0} (n k : ℕ) → _≡_ {A = Answer A} (needs n) (refused k) → ⊥
 needs-no n k e = let z : _≡_ {A = ℕ} 0 1 = cc in omega arith
 
+-- a number that checks give before what is given is that of one of them
+pub refused-by : {A : Type 0} (cs : List Check) (a : A) (k : ℕ) → checked cs (given a) ≡ refused k → Refuses cs k
+unfolding checked
+refused-by [] a k e = absurd (given-no a k e)
+refused-by (check true n ∷ cs) a k e = let same : n ≡ k = cc in subst (Refuses (check true n ∷ cs)) same (here refl)
+refused-by (check false n ∷ cs) a k e = later refl (refused-by cs a k e)
+
 -- the number of the first refusal, or 0
 pub first-is : {cs : List Check} {n : ℕ} → Refuses cs n → firstRefusal cs ≡ n
 unfolding firstRefusal
@@ -102,6 +109,16 @@ refuses-front ds (later e r) = later e (refuses-front ds r)
 pub refuses-behind : {cs ds : List Check} {n : ℕ} → Clear cs → Refuses ds n → Refuses (cs ++ ds) n
 refuses-behind done r = r
 refuses-behind (next e c) r = later e (refuses-behind c r)
+
+-- and back
+pub refuses-later : (cs : List Check) {ds : List Check} {k : ℕ} → Clear cs → Refuses (cs ++ ds) k → Refuses ds k
+refuses-later [] c r = r
+refuses-later (check t n ∷ cs) (next e c) (here h) = absurd (let z : _≡_ {A = ℕ} 0 1 = cc (sym e ∙ h) in omega arith)
+refuses-later (check t n ∷ cs) (next e c) (later h r) = refuses-later cs c r
+
+pub clear-behind : (cs : List Check) {ds : List Check} → Clear (cs ++ ds) → Clear ds
+clear-behind [] c = c
+clear-behind (check t n ∷ cs) (next e c) = clear-behind cs c
 
 pub clear-both : {cs ds : List Check} → Clear cs → Clear ds → Clear (cs ++ ds)
 clear-both done d = d

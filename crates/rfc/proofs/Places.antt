@@ -17,19 +17,19 @@ use Rattle.rfc.proofs.Finding.{lies, Halts, at-end, Finds, finds}
 use Rattle.rfc.proofs.Walk.{look-walked, step-walks, stop-answered, answered, further-none, further-other, further-no-length, further-no-value, further-more, walk-out, walk-pad, walk-end, walk-code, behind-none, behind-short, behind-whole}
 
 module _ (area : List ℕ) (i : ℕ) where
-  drop-one : i < length area → drop i area ≡ getD area i 0 ∷ drop (i + 1) area
+  pub drop-one : i < length area → drop i area ≡ getD area i 0 ∷ drop (i + 1) area
   drop-one h = rw (add-one, drop-cons area i 0)
 
-  drop-two : i + 2 ≤ length area → drop i area ≡ getD area i 0 ∷ getD area (i + 1) 0 ∷ drop (i + 2) area
+  pub drop-two : i + 2 ≤ length area → drop i area ≡ getD area i 0 ∷ getD area (i + 1) 0 ∷ drop (i + 2) area
   drop-two h =
       let a : i < length area = omega arith in
       let b : suc i < length area = omega arith in
       rw (add-one, add-two, drop-cons area i 0, drop-cons area (suc i) 0)
 
-  drop-last : i < length area → length area - i < 2 → drop i area ≡ getD area i 0 ∷ []
+  pub drop-last : i < length area → length area - i < 2 → drop i area ≡ getD area i 0 ∷ []
   drop-last h g = drop-one h ∙ ap (λ (l : List ℕ). getD area i 0 ∷ l) (drop-of-length-le area {i = i + 1} (omega arith))
 
-  rest-length : length (drop (i + 2) area) ≡ length area - (i + 2)
+  pub rest-length : length (drop (i + 2) area) ≡ length area - (i + 2)
   rest-length = length-drop (i + 2) area
 
   two : i + 1 + 1 ≡ i + 2

@@ -8,3 +8,6 @@ pub mod Writing
 pub mod Typed
 pub mod Routes
 pub mod Lists
+pub mod Portions
+pub mod Aggregate
+pub mod Modes
