@@ -172,7 +172,7 @@ module _ (area : List ℕ) (place : ℕ) {code parts len to : ℕ} (e : Found co
         (stays (Found code parts len to)
         (ap (λ (x : List ℕ). given (option code x parts to)) shows
         ∙ sym (one-answered (length join) code value parts to (omega arith)))
-        (omega (arith, s .fits, long), s .within, λ k. absurd (let f : ⊥ = omega arith in f))
+        (λ _. omega (arith, s .fits, long), s .within, λ k. absurd (let f : ⊥ = omega arith in f))
         (one-keeps join code _ parts to (omega arith)))
 
 -- an option of several parts that a call found where it begins
@@ -233,7 +233,7 @@ module _ {area : List ℕ} {at : ℕ} (c : Continues area at) {code parts len to
               ap (λ (x : List ℕ). given (option code x parts to))
               (shown-many parts len to area join′ (omega (arith, are .1)) ∙ part-there join′ 0 len (omega arith) ∙ there)
               ∙ sym is;
-          inside = (omega (arith, are .2), stands area at e .within, λ _. omega arith);
+          inside = (λ _. omega (arith, are .2), stands area at e .within, λ _. omega arith);
           kept = put ∙ sym (ap (λ (x : Answer rfc.Found). joinAfter x join) is ∙ many-joined join code v parts to (omega (arith, are .1)));
         })
 

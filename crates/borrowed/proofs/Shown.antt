@@ -37,12 +37,13 @@ module _ (parts len place : ℕ) (area join : List ℕ) where
   shown-one h g = simp (le-leb parts 1 h, le-leb len place g)
 
   -- bytes that are there are as many as was said
-  pub length-shown : len ≤ place → place ≤ length area → (1 < parts → len ≤ length join) → length (shown parts len place area join) ≡ len
+  pub length-shown : (parts ≤ 1 → len ≤ place) → place ≤ length area → (1 < parts → len ≤ length join) → length (shown parts len place area join) ≡ len
   length-shown h g k = go (decLe parts 1)
     where
       go : Dec (parts ≤ 1) → length (shown parts len place area join) ≡ len
       go (yes p) =
-          ap length (shown-one p h ∙ part-there area (place - len) len (omega arith))
+          let b : len ≤ place = h p in
+          ap length (shown-one p b ∙ part-there area (place - len) len (omega arith))
           ∙ length-take-le len (drop (place - len) area) (omega (arith, length-drop (place - len) area))
       go (no p) =
           let j : len ≤ length join = k (omega arith) in

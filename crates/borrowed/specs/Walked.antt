@@ -56,10 +56,10 @@ says (Found code parts len place) area join = given (option code (shown parts le
 says (Refused number) area join = refused number
 says (Needs len) area join = needs len
 
--- the bytes that an option shows are there
+-- the bytes that an option shows are there: with one part before its place, with more in the join buffer
 abbrev pub Inside : Step → List ℕ → List ℕ → Type 0
 Inside (Stopped s at) area join = Unit {0}
-Inside (Found code parts len place) area join = (len ≤ place) × (place ≤ length area) × (1 < parts → len ≤ length join)
+Inside (Found code parts len place) area join = (parts ≤ 1 → len ≤ place) × (place ≤ length area) × (1 < parts → len ≤ length join)
 Inside (Refused number) area join = Unit {0}
 Inside (Needs len) area join = Unit {0}
 

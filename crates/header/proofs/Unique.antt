@@ -44,7 +44,7 @@ use Rattle.header.proofs.Header.all.Kinds as all-kinds
 use Rattle.header.proofs.Header.all.Reads as all
 
 -- back from what is said to who said it
-says-one : (r q : Number) → says r ≡ says q → r ≡ q
+pub says-one : (r q : Number) → says r ≡ says q → r ≡ q
 says-one (numbers.Is a) (numbers.Is x) e = cc
 says-one (numbers.Is a) (numbers.Refused x) e = cc
 says-one (numbers.Refused a) (numbers.Is x) e = cc

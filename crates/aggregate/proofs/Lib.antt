@@ -1,0 +1,11 @@
+pub mod Spanning
+pub mod Tallying
+pub mod Marking
+pub mod Fronts
+pub mod Gathering
+pub mod Joining
+pub mod Answering
+pub mod Finding
+pub mod UniqueFinding
+pub mod Overloaded
+pub mod Unique

@@ -1,0 +1,4 @@
+pub mod Spanned
+pub mod Tallies
+pub mod Gathered
+pub mod Marked
