@@ -4,6 +4,7 @@ use mathlib.Core.Path.{_≡_, refl, sym, ap, _∙_}
 use Prim.Native.Nat.{ℕ}
 use mathlib.Core.List.{List, []}
 use Rattle.rfc.specs.Numbers.{Answer}
+use Rattle.rfc.specs.Walk as walk
 use Rattle.rfc.specs.Values as rfc
 use Rattle.rfc.specs.Writing.{Write}
 use Rattle.encoder.specs.Written as encoder
@@ -17,7 +18,7 @@ use Rattle.values.specs.declared.answer.Value as held
 use Rattle.values.specs.declared.answer.Value.the-variants as case
 use Rattle.values.specs.declared.answer.Reading.{Reading}
 use Rattle.values.specs.declared.answer.Reading.the-variants as reading
-use Rattle.crossing.specs.Carried.{stepOf, stepHere, Stepped, holding, valueOf, readingHere, writtenOf, Wrote, WroteValue}
+use Rattle.crossing.specs.Carried.{stepOf, stepHere, Steps, holding, valueOf, readingHere, writtenOf, Wrote, WroteValue}
 use Rattle.crossing.specs.declared.answers.Step.{Step}
 use Rattle.crossing.specs.declared.answers.Written.{Written}
 
@@ -30,8 +31,8 @@ step-said place (Found code parts len at) area join i =
 step-said place (Refused number) area join i = refl
 step-said place (Needs len) area join i = refl
 
-pub step-crosses : {area join join′ : List ℕ} {place : ℕ} {r : call.Step} {s : Step}
-    → walked.Stepped area place join join′ r → s ≡ stepHere place r → Stepped area place join join′ s
+pub step-crosses : {area join join′ : List ℕ} {place : ℕ} {r : call.Step} {s : Step} {answer : Answer walk.Found}
+    → walked.Walked area join join′ r answer → s ≡ stepHere place r → Steps place join join′ s answer
 step-crosses {area = area} {join′ = join′} {place = place} {r = r} w e =
     record { told = e ∙ step-said place r area join′ (w .inside) ∙ ap (stepOf place) (w .told); kept = w .kept }
 

@@ -46,10 +46,14 @@ stepOf place (given (walk.option code v n at)) = record { refused = 0; stop = 0;
 stepOf place (refused k) = record { refused = k; stop = 0; code = 0; parts = 0; len = 0; place = place }
 stepOf place (needs len) = record { refused = 5; stop = 0; code = 0; parts = 0; len = len; place = place }
 
--- a call at a place, from a join buffer to a join buffer, answers r
-pub record Stepped (area : List ℕ) (place : ℕ) (join join′ : List ℕ) (r : Step) : Type 0 where
-  pub told : r ≡ stepOf place (walk.step area place (length join))
-  pub kept : join′ ≡ walk.joinAfter (walk.step area place (length join)) join
+-- a call from a place, from a join buffer to a join buffer, answers r, which is this answer
+pub record Steps (place : ℕ) (join join′ : List ℕ) (r : Step) (answer : Answer walk.Found) : Type 0 where
+  pub told : r ≡ stepOf place answer
+  pub kept : join′ ≡ walk.joinAfter answer join
+
+-- a call of the walk at a place
+abbrev pub Stepped : List ℕ → ℕ → List ℕ → List ℕ → Step → Type 0
+Stepped area place join join′ r = Steps place join join′ r (walk.step area place (length join))
 
 -- what a value of a kind holds, as one number; only three bytes are a number among those that are raw
 abbrev pub contentNumber : ℕ → values.Content → ℕ

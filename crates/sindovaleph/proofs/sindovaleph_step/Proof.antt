@@ -15,9 +15,9 @@ use Rattle.sindovaleph.proofs.sindovaleph_step.Statement.{statement}
 use Rattle.sindovaleph.proofs.sindovaleph_step.Tie as tie
 
 -- the long way is lent all of the area, as a new slice
-lent : {area join join′ : List ℕ} {place : ℕ} {s t : Step} → t ≡ s → Stepped (take (length area - 0) (drop 0 area)) place join join′ s
-    → Stepped area place join join′ t
-lent {area = area} e w = rw e (rw (take-all (length area - 0) area (omega arith)) at w)
+lent : (area : List ℕ) {join join′ : List ℕ} {place : ℕ} {s t : Step} → t ≡ s
+    → Stepped (take (length area - 0) (drop 0 area)) place join join′ s → Stepped area place join join′ t
+lent area e w = rw e (rw (take-all (length area - 0) area (omega arith)) at w)
 
 returns : tie.Need-returns
 returns c = step-crosses (steps-alone _ _ _ _ _ _ (rw (c .before .code .given .1) at (c .before .before .before .first .ensures))) refl
@@ -26,10 +26,10 @@ returns-2 : tie.Need-returns-2
 returns-2 c = step-crosses (steps-end _ _ _ _ (rw (c .before .to .given .1) at (c .before .before .before .first .ensures))) refl
 
 returns-3 : tie.Need-returns-3
-returns-3 c = lent (c .anew .ensures) (c .before .before .before .long-way .ensures)
+returns-3 c = lent _ (c .anew .ensures) (c .before .before .before .long-way .ensures)
 
 returns-4 : tie.Need-returns-4
-returns-4 c = lent (c .anew2 .ensures) (c .before .before .before .long-way2 .ensures)
+returns-4 c = lent _ (c .anew2 .ensures) (c .before .before .before .long-way2 .ensures)
 
 pub sindovaleph-step-spec : {M : Type 1} → statement M
 sindovaleph-step-spec =
