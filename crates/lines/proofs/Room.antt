@@ -30,10 +30,10 @@ use Rattle.lines.specs.Words.{newline}
 use Rattle.lines.specs.Listing.{mostListed, messageLine, refusedLine, addressText, chaddrLine, optionLine, stopWord, stopLine, onward, linesIn, areaLines, listing}
 
 -- The lines
-number-most : (word : List ℕ) (n : ℕ) → Most (named word n) (length word + 20)
+pub number-most : (word : List ℕ) (n : ℕ) → Most (named word n) (length word + 20)
 number-most word n = both-most (word-most word) (decimal-most n)
 
-ended : {text : List ℕ} {n : ℕ} → Most text n → Most (text ++ newline) (n + 1)
+pub ended : {text : List ℕ} {n : ℕ} → Most text n → Most (text ++ newline) (n + 1)
 ended m = both-most m (word-most newline)
 
 message-most : (message : List ℕ) → Most (messageLine message) 131
@@ -45,7 +45,7 @@ message-most message =
     let four = both-most (both-most two (numbered words.htype header.htype)) (numbered words.hlen header.hlen) in
     ended (both-most four (numbered words.xid header.xid))
 
-refused-most : (number : ℕ) → Most (refusedLine number) 29
+pub refused-most : (number : ℕ) → Most (refusedLine number) 29
 unfolding refusedLine
 refused-most number = ended (number-most words.refused number)
 

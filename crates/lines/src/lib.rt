@@ -61,7 +61,7 @@ fn put_listing(text: &mut [u8], at: usize, message: &[u8]) -> usize
 }
 
 // Adds the line of a refusal.
-fn put_refused(text: &mut [u8], at: usize, number: u8) -> usize
+pub fn put_refused(text: &mut [u8], at: usize, number: u8) -> usize
     ensures { λ r. ⌜ (now (text .exit), r) ≡ addsAll (now (text .entry), at) (refusedLine number) ⌝ }
 {
     let to = pen::put_named(text, at, b"refused ", number as usize);
@@ -169,7 +169,7 @@ fn put_options(text: &mut [u8], at: usize, area: &[u8], join: &mut [u8], calls: 
 }
 
 // Adds the line of an option.
-fn put_option(text: &mut [u8], at: usize, code: u8, parts: usize, value: &[u8]) -> usize
+pub fn put_option(text: &mut [u8], at: usize, code: u8, parts: usize, value: &[u8]) -> usize
     ensures { λ r. ⌜ (now (text .exit), r) ≡ addsAll (now (text .entry), at) (optionLine code (now (value .entry)) parts) ⌝ }
 {
     let kind = pen::put_named(text, at, b"option ", code as usize);

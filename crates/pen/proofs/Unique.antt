@@ -14,7 +14,7 @@ use Rattle.pen.proofs.put_spaced.Kinds as put-spaced-kinds
 use Rattle.pen.proofs.put_spaced.Reads as put-spaced
 
 -- a room and a place that are both given
-same : {s t u : State} → s ≡ u → t ≡ u → (s .1 ≡ t .1) × (s .0 ≡ t .0)
+pub same : {s t u : State} → s ≡ u → t ≡ u → (s .1 ≡ t .1) × (s .0 ≡ t .0)
 same p q = (ap (λ (s : State). s .1) (p ∙ sym q), ap (λ (s : State). s .0) (p ∙ sym q))
 
 put-word-unique : UniqueLeft 2 put-word-kinds.ps put-word-kinds.r put-word.Post (λ κs s. now (s .0))

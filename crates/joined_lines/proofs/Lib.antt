@@ -1,0 +1,4 @@
+pub mod Telling
+pub mod Whole
+pub mod Room
+pub mod Unique

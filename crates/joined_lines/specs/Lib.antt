@@ -1,0 +1,2 @@
+pub mod JoinedWords
+pub mod Joined
