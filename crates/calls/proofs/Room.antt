@@ -8,11 +8,15 @@ use Rattle.rfc.specs.Numbers.{given}
 use Rattle.rfc.proofs.Writing.{into-given}
 use Rattle.lines.specs.Listing.{listing}
 use Rattle.lines.proofs.Room.{listing-most}
+use Rattle.joined_lines.proofs.Room.{joined-most}
 use Rattle.crossing.specs.Carried.{writtenOf}
-use Rattle.calls.specs.Room.{ListingFits, AlwaysListed}
+use Rattle.calls.specs.Room.{ListingFits, JoinedFits, AlwaysListed}
 
 pub listing-fits : ListingFits
 listing-fits message bytes = listing-most message bytes
+
+pub joined-fits : JoinedFits
+joined-fits message bytes = joined-most message bytes
 
 pub always-listed : AlwaysListed
 always-listed message room room′ r bytes whole wrote =

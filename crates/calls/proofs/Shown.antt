@@ -1,6 +1,8 @@
--- The worked examples of rows and of the listing hold: both sides of an equation are computed, and what a record says too.
+-- The worked examples of rows and of the listings hold: both sides of an equation are computed, and what a record says too.
 -- Assumes nothing.
 use mathlib.Core.Path.{refl}
+use mathlib.Core.List.{flatten}
+use Rattle.facts.specs.Distinct.{without}
 use Rattle.facts.specs.Over.{over}
 use Rattle.facts.specs.Pieces.{piecesIn, pieces}
 use Rattle.facts.specs.Ranges.{within, lookup}
@@ -10,11 +12,16 @@ use Rattle.rfc.specs.Walk.{extend, furtherIn, further, joined, behind, walk, ro
 use Rattle.rfc.specs.Kinds.{kinds, kindOf, sizes, sizeOf}
 use Rattle.rfc.specs.Values.{contents, widthOf, valueOf, rules, ruleFor, wrongLength, notText, unclear, readChecks, read, elements}
 use Rattle.rfc.specs.Writing.{partsOf, encode, writeChecks, answerTo, roomLeft, roomAfter}
+use Rattle.rfc.specs.Portions.{behindCode, nextPortion, ahead, goesOn, portionsIn, portions, isCut, partsIn, ofCode, joinedValue}
+use Rattle.rfc.specs.Aggregate.{fieldsOf, optionsRead, overloads, unclearOverload, overload, namesFile, namesSname, readNamed, fileRead, snameRead}
+use Rattle.rfc.specs.Aggregate.{fieldChecks, aggregate, codesOf, behindLast, optionFrom, optionOf, aggregateChecks, overloadOf, entry, optionsFrom, entries}
 use Rattle.options.specs.Rows.{outside, notCode, writeRow, orStuck, rowsFrom, writeRows}
 use Rattle.sindovaleph_rows.specs.Listing.{readUnjoined, inFront, listIn, list}
+use Rattle.sindovaleph_entries.specs.Rows.{entryRow, entryRows}
 use Rattle.pen.specs.Texts.{decimalIn, decimal, spaced}
 use Rattle.lines.specs.Listing.{messageLine, refusedLine, addressText, chaddrLine, optionLine, stopLine, onward, linesIn, areaLines, listing}
-use Rattle.calls.specs.Shown.{OfRowsWritten, OfRowsListed, OfListing}
+use Rattle.joined_lines.specs.Joined.{fieldsLine, codesLine, inTurn, entriesIn, fieldsLines, joinedLines, joinedListing}
+use Rattle.calls.specs.Shown.{OfRowsWritten, OfRowsListed, OfEntries, OfListing, OfJoined}
 
 pub of-rows-written : OfRowsWritten
 unfolding over piecesIn pieces tooLong pastEnd noCode tooMuch noRoom checked partsOf encode writeChecks answerTo roomLeft roomAfter outside notCode writeRow orStuck rowsFrom writeRows
@@ -40,7 +47,15 @@ unfolding over piecesIn pieces within lookup andThen tooLong pastEnd noCode chec
 of-rows-listed =
     (refl, refl, refl, refl, refl, refl, refl, refl, refl, refl, refl, refl, refl, refl, record { told = refl; kept = refl })
 
+pub of-entries : OfEntries
+unfolding over flatten within lookup without tooLong tooShort checked messageChecks magicRight area behindCode nextPortion ahead goesOn portionsIn portions isCut partsIn ofCode joinedValue fieldsOf optionsRead overloads unclearOverload overload namesFile namesSname readNamed fileRead snameRead fieldChecks aggregate codesOf behindLast optionFrom aggregateChecks optionsFrom entries entryRow entryRows
+of-entries = (refl, refl, refl, refl, refl, record { told = refl; kept = refl })
+
 pub of-listing : OfListing
 unfolding within lookup tooLong tooShort pastEnd checked messageChecks chaddrPart chaddrCut chaddrChecks chaddr magicRight area extend furtherIn further joined behind walk roomFor stepChecks step kinds kindOf decimalIn decimal spaced messageLine refusedLine addressText chaddrLine optionLine stopLine onward linesIn areaLines listing
 of-listing =
     (refl, refl, refl, refl, refl, refl, refl, refl, refl, refl, refl, refl, refl, refl, refl, refl, refl, refl)
+
+pub of-joined : OfJoined
+unfolding flatten within lookup without tooLong tooShort checked messageChecks magicRight area roomFor kinds kindOf behindCode nextPortion ahead goesOn portionsIn portions isCut partsIn ofCode joinedValue fieldsOf optionsRead overloads unclearOverload overload namesFile namesSname readNamed fileRead snameRead fieldChecks aggregate codesOf behindLast optionFrom optionOf aggregateChecks overloadOf entry decimalIn decimal spaced refusedLine optionLine fieldsLine codesLine inTurn entriesIn fieldsLines joinedLines joinedListing
+of-joined = (refl, refl, refl, refl, refl, refl, refl, refl, refl, refl, refl, refl)

@@ -1,4 +1,5 @@
--- The room that a listing takes: 65,535 bytes, the most that a room may have, are room for the listing of any message.
+-- The room that a listing takes: 65,535 bytes, the most that a room may have, are room for the listing of any message, and for that in RFC
+-- 3396's reading.
 -- Assumes nothing.
 use Prim.Native.Nat.{ℕ, _≤_}
 use mathlib.Core.Path.{_≡_}
@@ -8,11 +9,15 @@ use Rattle.rfc.specs.Numbers.{mostBytes}
 use Rattle.rfc.specs.Lists.{Bytes}
 use Rattle.rfc.specs.Writing.{intoRoom}
 use Rattle.lines.specs.Listing.{listing}
+use Rattle.joined_lines.specs.Joined.{joinedListing}
 use Rattle.crossing.specs.Carried.{Wrote}
 use Rattle.crossing.specs.declared.answers.Written.{Written}
 
 abbrev pub ListingFits : Type 0
 ListingFits = (message : List ℕ) → Bytes message → length (listing message) ≤ mostBytes
+
+abbrev pub JoinedFits : Type 0
+JoinedFits = (message : List ℕ) → Bytes message → length (joinedListing message) ≤ mostBytes
 
 -- so `sindovaleph_write_listing` refuses nothing there, at place 0
 abbrev pub AlwaysListed : Type 0

@@ -1,4 +1,4 @@
--- The worked examples of docs/READING.md that speak of rows and of the listing: a statement for each of its tables there. Each example
+-- The worked examples of docs/READING.md that speak of rows and of the listings: a statement for each of its tables there. Each example
 -- is computed from the definitions. `tools/reading` holds the page against this file.
 -- Assumes nothing.
 use Prim.Native.Nat.{ℕ}
@@ -8,16 +8,20 @@ use mathlib.Core.List.{List, [], _∷_, _++_}
 use lib.ListN.{replicate}
 use Rattle.rfc.specs.Numbers.{given, refused, needs}
 use Rattle.rfc.specs.Header.{area, chaddr, magic}
-use Rattle.rfc.specs.Walk.{end, option, stop}
+use Rattle.rfc.specs.Walk.{end, option, out, stop}
 use Rattle.rfc.specs.Values.{plain, read}
+use Rattle.rfc.specs.Aggregate.{entries, overloadOf}
 use Rattle.crossing.specs.Carried.{valueOf}
 use Rattle.options.specs.Rows.{WroteRows, all, answerOf, notCode, outside, roomOf, rowsFrom, stuck, writeRow, writeRows}
 use Rattle.options.specs.declared.rows.RowsWritten.the-variants.{To, Refused}
 use Rattle.sindovaleph_rows.specs.Writing.{WritesList, writtenRows}
 use Rattle.sindovaleph_rows.specs.Listing.{Last, Listing, Lists, atStop, found, full, inFront, lastNumber, list, listIn, listedOf, readUnjoined, rowOf, rowsAfter, stepRow, typed, valueRow, width}
+use Rattle.sindovaleph_entries.specs.Rows.{ListsEntries, entriesAfter, entriesOf, entryRow, entryRows}
 use Rattle.pen.specs.Texts.{decimal, named, spaced}
 use Rattle.lines.specs.Listing.{addressText, areaLines, chaddrLine, linesIn, listing, messageLine, onward, optionLine, refusedLine, stopLine, stopWord}
 use Rattle.lines.specs.Words as Words
+use Rattle.joined_lines.specs.JoinedWords as JoinedWords
+use Rattle.joined_lines.specs.Joined.{codesLine, entriesIn, fieldsLine, fieldsLines, inTurn, joinedLines, joinedListing}
 
 -- rows that are listed, how their listing ends, and the place
 abbrev pub rowsTo : List ℕ → Last → ℕ → Listing
@@ -54,6 +58,35 @@ line3 =
 abbrev pub line4 : List ℕ
 line4 = 115 ∷ 116 ∷ 111 ∷ 112 ∷ 32 ∷ 101 ∷ 110 ∷ 100 ∷ 32 ∷ 52 ∷ 10 ∷ []
 
+-- a message with RFC 3396's example, section 8: the file name /diskless/foo as option 67 in two parts, one in the options field and one in
+-- the field file, which option 52 names
+abbrev pub split : List ℕ
+split =
+    replicate 108 0 ++ (67 ∷ 6 ∷ 115 ∷ 115 ∷ 47 ∷ 102 ∷ 111 ∷ 111 ∷ 255 ∷ []) ++ replicate 119 0 ++ magic
+    ++ (52 ∷ 1 ∷ 1 ∷ 67 ∷ 7 ∷ 47 ∷ 100 ∷ 105 ∷ 115 ∷ 107 ∷ 108 ∷ 101 ∷ 255 ∷ [])
+
+-- its text, a line each: fields options file
+abbrev pub joined1 : List ℕ
+joined1 = 102 ∷ 105 ∷ 101 ∷ 108 ∷ 100 ∷ 115 ∷ 32 ∷ 111 ∷ 112 ∷ 116 ∷ 105 ∷ 111 ∷ 110 ∷ 115 ∷ 32 ∷ 102 ∷ 105 ∷ 108 ∷ 101 ∷ 10 ∷ []
+
+-- option 52 kind 4 parts 1 value 1
+abbrev pub joined2 : List ℕ
+joined2 =
+    111 ∷ 112 ∷ 116 ∷ 105 ∷ 111 ∷ 110 ∷ 32 ∷ 53 ∷ 50 ∷ 32 ∷ 107 ∷ 105 ∷ 110 ∷ 100 ∷ 32 ∷ 52 ∷ 32 ∷ 112 ∷ 97 ∷ 114 ∷ 116 ∷ 115 ∷ 32 ∷ 49
+    ∷ 32 ∷ 118 ∷ 97 ∷ 108 ∷ 117 ∷ 101 ∷ 32 ∷ 49 ∷ 10 ∷ []
+
+-- option 67 kind 0 parts 2 value 47 100 105 115 107 108 101 115 115 47 102 111 111
+abbrev pub joined3 : List ℕ
+joined3 =
+    111 ∷ 112 ∷ 116 ∷ 105 ∷ 111 ∷ 110 ∷ 32 ∷ 54 ∷ 55 ∷ 32 ∷ 107 ∷ 105 ∷ 110 ∷ 100 ∷ 32 ∷ 48 ∷ 32 ∷ 112 ∷ 97 ∷ 114 ∷ 116 ∷ 115 ∷ 32 ∷ 50
+    ∷ 32 ∷ 118 ∷ 97 ∷ 108 ∷ 117 ∷ 101 ∷ 32 ∷ 52 ∷ 55 ∷ 32 ∷ 49 ∷ 48 ∷ 48 ∷ 32 ∷ 49 ∷ 48 ∷ 53 ∷ 32 ∷ 49 ∷ 49 ∷ 53 ∷ 32 ∷ 49 ∷ 48 ∷ 55 ∷ 32
+    ∷ 49 ∷ 48 ∷ 56 ∷ 32 ∷ 49 ∷ 48 ∷ 49 ∷ 32 ∷ 49 ∷ 49 ∷ 53 ∷ 32 ∷ 49 ∷ 49 ∷ 53 ∷ 32 ∷ 52 ∷ 55 ∷ 32 ∷ 49 ∷ 48 ∷ 50 ∷ 32 ∷ 49 ∷ 49 ∷ 49 ∷ 32
+    ∷ 49 ∷ 49 ∷ 49 ∷ 10 ∷ []
+
+-- codes 2
+abbrev pub joined4 : List ℕ
+joined4 = 99 ∷ 111 ∷ 100 ∷ 101 ∷ 115 ∷ 32 ∷ 50 ∷ 10 ∷ []
+
 abbrev pub OfRowsWritten : Type 0
 OfRowsWritten =
     (outside 3 2 (97 ∷ 98 ∷ 99 ∷ 100 ∷ []) ≡ true)
@@ -89,6 +122,15 @@ OfRowsListed =
     × (rowsAfter (list found closed 0 5) (9 ∷ 9 ∷ 9 ∷ 9 ∷ 9 ∷ []) ≡ 12 ∷ 1 ∷ 1 ∷ 3 ∷ 9 ∷ [])
     × (Lists found closed 0 (9 ∷ 9 ∷ 9 ∷ 9 ∷ []) (12 ∷ 1 ∷ 1 ∷ 3 ∷ []) (record { refused = 0; stop = 0; rows = 1; place = 3 }))
 
+abbrev pub OfEntries : Type 0
+OfEntries =
+    (entryRow (option 12 (65 ∷ 66 ∷ []) 2 248) ≡ 12 ∷ 2 ∷ 2 ∷ 248 ∷ [])
+    × (entryRows 1 (option 12 (65 ∷ []) 1 243 ∷ option 1 [] 1 245 ∷ []) ≡ 12 ∷ 1 ∷ 1 ∷ 243 ∷ [])
+    × (entriesOf (entries reply) ≡ record { refused = 0; codes = 1 })
+    × (entriesOf (refused 15) ≡ record { refused = 15; codes = 0 })
+    × (entriesAfter (entries reply) (9 ∷ 9 ∷ 9 ∷ 9 ∷ 9 ∷ []) ≡ 53 ∷ 1 ∷ 1 ∷ 243 ∷ 9 ∷ [])
+    × (ListsEntries reply (9 ∷ 9 ∷ 9 ∷ []) (9 ∷ 9 ∷ 9 ∷ []) (record { refused = 0; codes = 1 }))
+
 abbrev pub OfListing : Type 0
 OfListing =
     (decimal 240 ≡ 50 ∷ 52 ∷ 48 ∷ [])
@@ -109,3 +151,18 @@ OfListing =
     × (listing reply ≡ line1 ++ line2 ++ line3 ++ line4)
     × (listing (replicate 239 0) ≡ refusedLine 1)
     × (listing (replicate 4097 0) ≡ Words.tooLong ++ 10 ∷ [])
+
+abbrev pub OfJoined : Type 0
+OfJoined =
+    (JoinedWords.file ≡ 32 ∷ 102 ∷ 105 ∷ 108 ∷ 101 ∷ [])
+    × (fieldsLine 1 ≡ joined1)
+    × (codesLine 2 ≡ joined4)
+    × (inTurn (given (option 52 (1 ∷ []) 1 243)) 0 joined4 ≡ joined2 ++ joined4)
+    × (inTurn (given (stop out 0)) 2 [] ≡ joined4)
+    × (entriesIn 3 13 split 0 ≡ joined2 ++ joined3 ++ joined4)
+    × (fieldsLines split (overloadOf split) ≡ joined1 ++ joined2 ++ joined3 ++ joined4)
+    × (fieldsLines split (refused 16) ≡ refusedLine 16)
+    × (joinedLines (replicate 240 0) (area (replicate 240 0)) ≡ Words.magicWrong ++ 10 ∷ [])
+    × (joinedListing split ≡ joined1 ++ joined2 ++ joined3 ++ joined4)
+    × (joinedListing (replicate 239 0) ≡ refusedLine 1)
+    × (joinedListing (replicate 4097 0) ≡ Words.tooLong ++ 10 ∷ [])

@@ -14,7 +14,7 @@ use Rattle.rfc.proofs.Walk.{stop-keeps, refused-keeps, needs-keeps, refused-sta
 use Rattle.rfc.proofs.Writing.{refused-left, given-left, given-to, given-fits}
 use Rattle.promises.specs.Refusals.{Refusal, byNumber, byLength, WalkRefusals, WalkStops, WriteRefusals, WriteChanges}
 
-keeps : (a : Answer Found) (join : List ℕ) (place : ℕ) → Refusal a → (joinAfter a join ≡ join) × (placeAfter a place ≡ place)
+pub keeps : (a : Answer Found) (join : List ℕ) (place : ℕ) → Refusal a → (joinAfter a join ≡ join) × (placeAfter a place ≡ place)
 keeps a join place (byNumber k) = (refused-keeps join k, refused-stays k place)
 keeps a join place (byLength n) = (needs-keeps join n, needs-stays n place)
 

@@ -1,10 +1,11 @@
--- The worked examples of the base of docs/READING.md hold: both sides of an equation are computed, and what is none is shown by its numbers.
+-- The worked examples of docs/READING.md hold: both sides of an equation are computed, and what is none is shown by its numbers.
 -- Assumes nothing.
 use Rattle.facts.specs.BigEndian.{numberAt}
 use mathlib.Core.Path.{refl}
 use mathlib.Core.List.{[], _∷_, flatten}
 use native.Mathlib.Omega.{arith}
 use lib.Dec.{lit<}
+use Rattle.facts.specs.Distinct.{without}
 use Rattle.facts.specs.Over.{over}
 use Rattle.facts.specs.Pieces.{piecesIn, pieces}
 use Rattle.facts.specs.Ranges.{within, lookup}
@@ -18,8 +19,11 @@ use Rattle.rfc.specs.Writing.{partsOf, encode, writeChecks, answerTo, roomLeft,
 use Rattle.rfc.specs.Typed.{Below, digitsOf, partSize, encodeKind, otherKind, oddPairs, codeChecks, valueChecks, writeKind, writeValue, u16, noNumbers}
 use Rattle.rfc.specs.Routes.{significant, routeBytes, routesBytes, tooWide, writeRoutes}
 use Rattle.rfc.specs.Lists.{Good, encodeAll, does, writeAll, onward, listIn, listing, atStop}
+use Rattle.rfc.specs.Portions.{behindCode, nextPortion, ahead, goesOn, portionsIn, portions, isCut, partsIn, ofCode, joinedValue}
+use Rattle.rfc.specs.Aggregate.{fieldsOf, optionsRead, overloads, unclearOverload, overload, namesFile, namesSname, readNamed, fileRead, snameRead, fieldChecks, aggregate, codesOf, behindLast, optionFrom, optionOf, aggregateChecks, overloadOf, findChecks, find, entry, optionsFrom, entries}
+use Rattle.rfc.specs.Modes.{valuesIn, atContinuation, atEnd}
 use Rattle.promises.specs.Order.{follows}
-use Rattle.promises.specs.Worked.{abc, OfGeneral, OfNumbers, OfHeader, OfWalk, OfKinds, OfText, OfValues, OfWriting, OfTyped, OfRoutes, OfLists}
+use Rattle.promises.specs.Worked.{abc, OfGeneral, OfNumbers, OfHeader, OfWalk, OfKinds, OfText, OfValues, OfWriting, OfTyped, OfRoutes, OfLists, OfPortions, OfOverload, OfAggregate}
 
 pub of-general : OfGeneral
 unfolding over piecesIn pieces within lookup numberAt
@@ -73,3 +77,15 @@ abc-good = record { low = omega arith; high = omega arith; some = omega arith; m
 pub of-lists : OfLists
 unfolding over piecesIn pieces andThen tooLong pastEnd noCode tooMuch noRoom checked extend furtherIn further joined behind walk roomFor stepChecks step partsOf encode writeChecks answerTo roomLeft roomAfter writeBytes intoRoom close encodeAll does writeAll onward listIn listing
 of-lists = ((abc-good, tt, tt), (lit< tt, (lit< tt, tt)), refl, refl, refl, atStop end 6)
+
+pub of-portions : OfPortions
+unfolding flatten behindCode nextPortion ahead goesOn portionsIn portions isCut partsIn ofCode joinedValue
+of-portions = (refl, refl, refl, refl, refl, refl, refl, refl, refl, refl, refl, refl, refl, refl, refl, refl, refl, refl)
+
+pub of-overload : OfOverload
+unfolding flatten within firstRefusal magicRight behindCode nextPortion ahead goesOn portionsIn portions isCut partsIn ofCode joinedValue fieldsOf optionsRead overloads unclearOverload overload namesFile namesSname readNamed fileRead snameRead fieldChecks aggregate
+of-overload = (refl, refl, refl, refl, refl, refl, refl, refl, refl, refl, refl, refl, refl, refl, refl, refl, refl, refl, refl, refl, refl, refl)
+
+pub of-aggregate : OfAggregate
+unfolding flatten without within tooLong tooShort noCode checked messageChecks magicRight roomFor behindCode nextPortion ahead goesOn portionsIn portions isCut partsIn ofCode joinedValue fieldsOf optionsRead overloads unclearOverload overload namesFile namesSname readNamed fileRead snameRead fieldChecks aggregate codesOf behindLast optionFrom optionOf aggregateChecks overloadOf findChecks find entry optionsFrom entries valuesIn
+of-aggregate = (refl, refl, refl, refl, refl, refl, refl, refl, refl, refl, refl, refl, refl, refl, refl, refl, atContinuation 3, atEnd 6)

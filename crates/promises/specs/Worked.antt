@@ -1,4 +1,5 @@
--- The worked examples of the base of docs/READING.md, a statement for each of its tables: each example is computed from the definitions.
+-- The worked examples of docs/READING.md, of its base and of RFC 3396's reading, a statement for each table: each example is computed from the
+-- definitions.
 -- `tools/reading` holds the page against this file.
 -- Assumes nothing.
 use Prim.Native.Nat.{ℕ, _+_}
@@ -8,6 +9,7 @@ use mathlib.Core.List.{List, [], _∷_, _++_}
 use mathlib.Core.Option.{none, some}
 use lib.IntN.{negsuc}
 use lib.ListN.{length, replicate}
+use Rattle.facts.specs.Distinct.{without}
 use Rattle.facts.specs.Over.{over}
 use Rattle.facts.specs.Pieces.{pieces}
 use Rattle.facts.specs.Ranges.{lookup, row}
@@ -22,6 +24,11 @@ use Rattle.rfc.specs.Writing.{answerTo, close, encode, nextPart, partsOf, roomA
 use Rattle.rfc.specs.Typed.{Apart, Below, Empty, Proper, Seconds, encodeKind, oddPairs, otherKind, partSize, writeValue}
 use Rattle.rfc.specs.Routes.{routeBytes, significant, tooWide, writeRoutes}
 use Rattle.rfc.specs.Lists.{Bytes, Ending, Opt, Valid, encodeAll, finished, listing, writeAll}
+use Rattle.rfc.specs.Portions.{Portion, ahead, behindCode, cutField, cutPart, goesOn, isCut, joinedValue, next, nextPortion, noMore, ofCode, partsIn, portion, portions, portionsIn}
+use Rattle.rfc.specs.Portions.{whole}
+use Rattle.rfc.specs.Aggregate.{OptionFields, aggregate, behindLast, codesOf, entries, entry, fieldChecks, fieldsOf, fileRead, find, namesFile, namesSname, optionFrom, optionOf}
+use Rattle.rfc.specs.Aggregate.{optionsFrom, optionsRead, overload, overloadOf, overloads, readNamed, snameRead, unclearOverload}
+use Rattle.rfc.specs.Modes.{EndsCut, EndsWhole, valuesIn}
 use Rattle.rfc.specs.Header as Header
 use Rattle.rfc.specs.Typed as Typed
 use Rattle.promises.specs.Order.{follows}
@@ -203,3 +210,88 @@ OfLists =
     × (writeAll (abc ∷ []) (replicate 7 0) 0 ≡ finished (12 ∷ 3 ∷ 97 ∷ 98 ∷ 99 ∷ 255 ∷ 0 ∷ []) 6)
     × (listing (12 ∷ 3 ∷ 97 ∷ 98 ∷ 99 ∷ 255 ∷ 7 ∷ []) 0 ≡ listed (abc ∷ []) 6)
     × (Ending (given (stop end 6)))
+
+-- two parts of code 12, around an option 1
+abbrev pub twelve : Portion
+twelve = portion 12 (65 ∷ []) 243
+
+abbrev pub again : Portion
+again = portion 12 (66 ∷ []) 248
+
+abbrev pub around : List Portion
+around = twelve ∷ portion 1 [] 245 ∷ again ∷ []
+
+abbrev pub OfPortions : Type 0
+OfPortions =
+    (nextPortion 0 (12 ∷ 1 ∷ 65 ∷ 255 ∷ []) ≡ next (portion 12 (65 ∷ []) 3) (255 ∷ []))
+    × (behindCode 12 1 [] ≡ cutPart)
+    × (behindCode 12 1 (5 ∷ 65 ∷ []) ≡ cutPart)
+    × (nextPortion 0 (0 ∷ 12 ∷ 0 ∷ []) ≡ next (portion 12 [] 3) [])
+    × (nextPortion 0 (255 ∷ 12 ∷ []) ≡ noMore)
+    × (nextPortion 0 [] ≡ noMore)
+    × (ahead twelve (whole []) ≡ whole (twelve ∷ []))
+    × (ahead twelve cutField ≡ cutField)
+    × (goesOn (next twelve []) portions ≡ whole (twelve ∷ []))
+    × (portionsIn 1 0 (12 ∷ 0 ∷ 1 ∷ 0 ∷ []) ≡ whole (portion 12 [] 2 ∷ []))
+    × (portions 240 (12 ∷ 1 ∷ 65 ∷ 1 ∷ 0 ∷ 12 ∷ 1 ∷ 66 ∷ 255 ∷ 12 ∷ []) ≡ whole around)
+    × (portions 240 (12 ∷ 0 ∷ 12 ∷ []) ≡ cutField)
+    × (isCut cutField ≡ true)
+    × (isCut (whole []) ≡ false)
+    × (partsIn (whole around) ≡ around)
+    × (partsIn cutField ≡ [])
+    × (ofCode 12 around ≡ twelve ∷ again ∷ [])
+    × (joinedValue (twelve ∷ again ∷ []) ≡ 65 ∷ 66 ∷ [])
+
+-- the three fields that may hold options
+abbrev pub threeFields : List ℕ → List ℕ → List ℕ → OptionFields
+threeFields o f s = record { options = o; file = f; sname = s }
+
+-- all of them named: a part of code 12 in each of file and sname
+abbrev pub allNamed : OptionFields
+allNamed = threeFields (52 ∷ 1 ∷ 3 ∷ 255 ∷ []) (12 ∷ 1 ∷ 66 ∷ []) (12 ∷ 1 ∷ 67 ∷ [])
+
+abbrev pub OfOverload : Type 0
+OfOverload =
+    (fieldsOf sample .options ≡ 53 ∷ 1 ∷ 5 ∷ 255 ∷ [])
+    × (length (fieldsOf sample .file) ≡ 128)
+    × (fieldsOf (replicate 244 0) .options ≡ [])
+    × (optionsRead allNamed ≡ whole (portion 52 (3 ∷ []) 243 ∷ []))
+    × (overloads allNamed ≡ portion 52 (3 ∷ []) 243 ∷ [])
+    × (unclearOverload (portion 52 (3 ∷ []) 243 ∷ []) ≡ false)
+    × (unclearOverload (portion 52 (4 ∷ []) 243 ∷ []) ≡ true)
+    × (unclearOverload (portion 52 (1 ∷ 1 ∷ []) 244 ∷ []) ≡ true)
+    × (unclearOverload (portion 52 (1 ∷ []) 243 ∷ portion 52 [] 245 ∷ []) ≡ true)
+    × (overload allNamed ≡ 3)
+    × (namesFile 1 ≡ true)
+    × (namesFile 2 ≡ false)
+    × (namesSname 2 ≡ true)
+    × (namesSname 1 ≡ false)
+    × (readNamed false 44 (12 ∷ []) ≡ whole [])
+    × (fileRead allNamed ≡ whole (portion 12 (66 ∷ []) 111 ∷ []))
+    × (snameRead allNamed ≡ whole (portion 12 (67 ∷ []) 47 ∷ []))
+    × (firstRefusal (fieldChecks (threeFields (52 ∷ 0 ∷ 12 ∷ []) [] [])) ≡ 15)
+    × (firstRefusal (fieldChecks (threeFields (52 ∷ 0 ∷ []) [] [])) ≡ 16)
+    × (firstRefusal (fieldChecks (threeFields (52 ∷ 1 ∷ 2 ∷ []) (12 ∷ []) (12 ∷ []))) ≡ 15)
+    × (firstRefusal (fieldChecks (threeFields (52 ∷ 1 ∷ 2 ∷ []) (12 ∷ []) [])) ≡ 0)
+    × (aggregate allNamed ≡ portion 52 (3 ∷ []) 243 ∷ portion 12 (66 ∷ []) 111 ∷ portion 12 (67 ∷ []) 47 ∷ [])
+
+abbrev pub OfAggregate : Type 0
+OfAggregate =
+    (without 12 (12 ∷ 1 ∷ 12 ∷ []) ≡ 1 ∷ [])
+    × (codesOf around ≡ 12 ∷ 1 ∷ [])
+    × (behindLast twelve (again ∷ []) ≡ 248)
+    × (optionFrom 12 (twelve ∷ again ∷ []) ≡ option 12 (65 ∷ 66 ∷ []) 2 248)
+    × (optionFrom 12 [] ≡ stop out 0)
+    × (optionOf allNamed 12 1 ≡ needs 2)
+    × (overloadOf sample ≡ given 0)
+    × (overloadOf (replicate 239 0) ≡ refused 1)
+    × (find sample 53 0 ≡ given (option 53 (5 ∷ []) 1 243))
+    × (find sample 12 0 ≡ given (stop out 0))
+    × (find sample 255 0 ≡ refused 6)
+    × (entry sample 0 0 ≡ given (option 53 (5 ∷ []) 1 243))
+    × (entry sample 1 0 ≡ given (stop out 0))
+    × (optionsFrom around ≡ option 12 (65 ∷ 66 ∷ []) 2 248 ∷ option 1 [] 1 245 ∷ [])
+    × (entries sample ≡ given (option 53 (5 ∷ []) 1 243 ∷ []))
+    × (valuesIn 12 (abc ∷ record { code = 1; value = 7 ∷ [] } ∷ abc ∷ []) ≡ 97 ∷ 98 ∷ 99 ∷ 97 ∷ 98 ∷ 99 ∷ [])
+    × (EndsCut (given (stop cutContinuation 3)))
+    × (EndsWhole (given (stop end 6)))
