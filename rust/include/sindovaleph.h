@@ -24,7 +24,7 @@ extern "C" {
 
 /* The version of the boundary. Its name carries the number, and each file that includes this header names it, where
    the compiler can be told so: a library of another version does not link. */
-#define SINDOVALEPH_BOUNDARY sindovaleph_boundary_1
+#define SINDOVALEPH_BOUNDARY sindovaleph_boundary_2
 
 /* The number of the version. */
 uint32_t SINDOVALEPH_BOUNDARY(void);
@@ -52,7 +52,9 @@ enum {
     SINDOVALEPH_REFUSED_NOT_UTF8 = 11,         /* text is not UTF-8 */
     SINDOVALEPH_REFUSED_WIDTH_ABOVE32 = 12,    /* a route's width is above 32 */
     SINDOVALEPH_REFUSED_ODD_PAIRS = 13,        /* a list of pairs has an odd number of addresses */
-    SINDOVALEPH_REFUSED_UNCLEAR_YES_NO = 14    /* strict reading: a yes/no byte is neither 0 nor 1 */
+    SINDOVALEPH_REFUSED_UNCLEAR_YES_NO = 14,   /* strict reading: a yes/no byte is neither 0 nor 1 */
+    SINDOVALEPH_REFUSED_FIELD_CUT = 15,        /* a field that holds options is cut */
+    SINDOVALEPH_REFUSED_UNCLEAR_OVERLOAD = 16  /* option 52 has more than one part or is not one byte of 1 to 3 */
 };
 
 /* Why a walk stopped. A stop is no refusal: the place moves, and a further call goes on from there. */
@@ -104,7 +106,7 @@ typedef struct {
     bool wrong_magic;       /* if not, the area of options is all bytes from 240 on */
 } SindovalephFields;
 
-/* One field of the header. */
+/* One field of the header, or what option 52 says. */
 typedef struct {
     size_t refused;
     size_t number;
@@ -112,14 +114,15 @@ typedef struct {
 
 /* One call of the walk: an option; or a stop, whose code, parts and len are 0. With one part the value is the `len`
    bytes of the area before `place`, with more the first `len` bytes of the join buffer. Refusal 5 says in `len` how many
-   are needed. */
+   are needed. Where the parts of a code are joined over all fields, it is the same of the message in the area's place,
+   and the only stop is 1, at place 0: there is no such option. */
 typedef struct {
     uint8_t refused;
     uint8_t stop; /* 0 for an option */
     uint8_t code;
     size_t parts;
     size_t len;
-    size_t place; /* where a further call goes on */
+    size_t place; /* behind the last part or the stop: where a further call of the walk goes on */
 } SindovalephStep;
 
 /* What a value reads as. As a number yes is 1, seconds are in two's complement, and of three bytes the first is the
@@ -152,8 +155,14 @@ typedef struct {
     size_t place; /* where a further call goes on */
 } SindovalephListed;
 
+/* What a listing of codes answers. As many rows are filled as there are codes, or as there are rows. */
+typedef struct {
+    uint8_t refused;
+    size_t codes; /* how many there are */
+} SindovalephEntries;
+
 /* An option in a listing, in the numbers of SindovalephStep. Nothing is joined: with two parts or more the value stands
-   in the area alone, part by part. Rows are lent as numbers: `&rows[0].code`, and 4 for each row. */
+   in the area or the message alone, part by part. Rows are lent as numbers: `&rows[0].code`, and 4 for each row. */
 typedef struct {
     size_t code;
     size_t parts;
@@ -221,7 +230,27 @@ SindovalephWritten sindovaleph_write_bytes(uint8_t *room, size_t room_len, size_
 /* Writes End. */
 SindovalephWritten sindovaleph_close(uint8_t *room, size_t room_len, size_t place);
 
-/* All options in one call. */
+/* RFC 3396's reading: all parts of one code are joined, over the options field and over file and sname, where option 52
+   names them. */
+
+/* What option 52 of the options field says: 1 file, 2 sname, 3 both; 0 where there is none. A message that it refuses, by
+   2, 1, 15, 16 and 15 in this order, is refused alike by the three functions below. */
+SindovalephField sindovaleph_overload(const uint8_t *message, size_t message_len);
+
+/* What a code is in a message: an option, or stop 1 where it has no part. A code of 0 or 255 is refused with 6, before 15
+   and 16. */
+SindovalephStep sindovaleph_find(const uint8_t *message, size_t message_len, uint8_t code, uint8_t *join,
+                                 size_t join_len);
+
+/* The option at an index, in the order in which codes first appear; stop 1 behind the last. */
+SindovalephStep sindovaleph_entry(const uint8_t *message, size_t message_len, size_t index, uint8_t *join,
+                                  size_t join_len);
+
+/* All options in that order, a SindovalephRow for each, whose place is a place of the message. A message has at most 254
+   codes. */
+SindovalephEntries sindovaleph_entries(const uint8_t *message, size_t message_len, size_t *rows, size_t numbers);
+
+/* All options of an area in one call. */
 
 /* Lists the options from a place on, a SindovalephRow for each, until the first stop or until the rows are full. */
 SindovalephListed sindovaleph_list(const uint8_t *area, size_t area_len, size_t place, size_t *rows, size_t numbers);

@@ -44,18 +44,19 @@ pub struct Fields {
     pub wrong_magic: bool,
 }
 
-/// One field of the header.
+/// One field of the header, or what option 52 says.
 #[repr(C)]
 #[derive(Clone, Copy, Debug, PartialEq, Eq)]
 pub struct Field {
     /// The refusal, 0 for none.
     pub refused: usize,
-    /// The field.
+    /// The number.
     pub number: usize,
 }
 
 /// One call of the walk: an option or a stop. With one part the value is the `len` bytes of the area before `place`,
-/// with more the first `len` bytes of the join buffer.
+/// with more the first `len` bytes of the join buffer. Where the parts of a code are joined over all fields, it is the
+/// same of the message in the area's place, and the only stop is 1, at place 0: there is no such option.
 #[repr(C)]
 #[derive(Clone, Copy, Debug, PartialEq, Eq)]
 pub struct Step {
@@ -69,7 +70,7 @@ pub struct Step {
     pub parts: usize,
     /// How many bytes its value has. Refusal 5 says here how many are needed.
     pub len: usize,
-    /// The place where a further call goes on.
+    /// The place behind the option's last part or behind the stop: where a further call of the walk goes on.
     pub place: usize,
 }
 
@@ -124,8 +125,19 @@ pub struct Listed {
     pub place: usize,
 }
 
+/// What a listing of codes answers: as many rows are filled as there are codes, or as there are rows. A refusal fills
+/// none.
+#[repr(C)]
+#[derive(Clone, Copy, Debug, PartialEq, Eq)]
+pub struct Entries {
+    /// The refusal, 0 for none.
+    pub refused: u8,
+    /// How many codes there are.
+    pub codes: usize,
+}
+
 /// An option in a listing, in the numbers of [`Step`]. Nothing is joined: with two parts or more the value stands in
-/// the area alone, part by part.
+/// the area or the message alone, part by part.
 #[repr(C)]
 #[derive(Clone, Copy, Debug, Default, PartialEq, Eq)]
 pub struct Row {
@@ -204,13 +216,30 @@ mod boundary {
     use super::*;
 
     unsafe extern "C" {
-        pub safe fn sindovaleph_boundary_1() -> u32;
+        pub safe fn sindovaleph_boundary_2() -> u32;
         pub fn sindovaleph_header(message: *const u8, message_len: usize) -> Fields;
         pub fn sindovaleph_xid(message: *const u8, message_len: usize) -> Field;
         pub safe fn sindovaleph_kind_of(code: u8) -> u8;
         pub fn sindovaleph_is_utf8(text: *const u8, text_len: usize) -> bool;
         pub fn sindovaleph_step(area: *const u8, area_len: usize, place: usize, join: *mut u8, join_len: usize)
         -> Step;
+        pub fn sindovaleph_overload(message: *const u8, message_len: usize) -> Field;
+        pub fn sindovaleph_find(
+            message: *const u8,
+            message_len: usize,
+            code: u8,
+            join: *mut u8,
+            join_len: usize,
+        ) -> Step;
+        pub fn sindovaleph_entry(
+            message: *const u8,
+            message_len: usize,
+            index: usize,
+            join: *mut u8,
+            join_len: usize,
+        ) -> Step;
+        pub fn sindovaleph_entries(message: *const u8, message_len: usize, rows: *mut usize, numbers: usize)
+        -> Entries;
         pub fn sindovaleph_list(
             area: *const u8,
             area_len: usize,
@@ -339,7 +368,7 @@ use boundary::*;
 // The version of the boundary that is declared here: every program with this crate in it names it, so that it does not
 // link with a library of another version.
 #[used]
-static BOUNDARY: extern "C" fn() -> u32 = sindovaleph_boundary_1;
+static BOUNDARY: extern "C" fn() -> u32 = sindovaleph_boundary_2;
 
 // SAFETY, of every call below: the proved side takes any numbers and any bytes, so a call needs valid slices and
 // nothing else. References are that, with their own lengths, for as long as the call lasts; the proved side keeps none
@@ -356,8 +385,12 @@ pub(crate) unsafe trait Wraps {
     type Bare;
 }
 
-// SAFETY: each is declared `repr(transparent)`.
+// SAFETY: each is declared `repr(transparent)`, and what is within too.
 unsafe impl Wraps for crate::Row {
+    type Bare = Row;
+}
+
+unsafe impl Wraps for crate::EntryRow {
     type Bare = Row;
 }
 
@@ -448,6 +481,33 @@ pub fn write_list(room: &mut [u8], place: usize, rows: &[WriteRow], values: &[u8
 #[inline]
 pub fn step(area: &[u8], place: usize, join: &mut [u8]) -> Step {
     unsafe { sindovaleph_step(area.as_ptr(), area.len(), place, join.as_mut_ptr(), join.len()) }
+}
+
+/// What option 52 of the options field says: 1 file, 2 sname, 3 both; 0 where there is none. A message that it refuses,
+/// by 2, 1, 15, 16 and 15 in this order, is refused alike by the three calls below.
+#[inline]
+pub fn overload(message: &[u8]) -> Field {
+    unsafe { sindovaleph_overload(message.as_ptr(), message.len()) }
+}
+
+/// What a code is in a message, over the options field and the fields that option 52 names: an option, or stop 1 where it
+/// has no part. What has several parts is joined in `join`. A code of 0 or 255 is refused with 6, before 15 and 16.
+#[inline]
+pub fn find(message: &[u8], code: u8, join: &mut [u8]) -> Step {
+    unsafe { sindovaleph_find(message.as_ptr(), message.len(), code, join.as_mut_ptr(), join.len()) }
+}
+
+/// The option at an index, in the order in which codes first appear, as [`find`] has it; stop 1 behind the last.
+#[inline]
+pub fn entry(message: &[u8], index: usize, join: &mut [u8]) -> Step {
+    unsafe { sindovaleph_entry(message.as_ptr(), message.len(), index, join.as_mut_ptr(), join.len()) }
+}
+
+/// All options in that order, in rows. Nothing is joined. A message has at most 254 codes.
+#[inline]
+pub fn entries(message: &[u8], rows: &mut [Row]) -> Entries {
+    let count = numbers(rows);
+    unsafe { sindovaleph_entries(message.as_ptr(), message.len(), rows.as_mut_ptr().cast(), count) }
 }
 
 /// What the value of an option reads as, plainly or strictly.

@@ -99,6 +99,49 @@
 //! Nothing is joined there: where [`Row::parts`] says that an option has several, [`Row::join`] joins them. Where the
 //! rows are full, `stop` is `None`, and [`list`] goes on from `place`.
 //!
+//! # An option in several places
+//!
+//! [`Message::opts`] and [`Message::list`] read the options field alone, and take parts of one code for one option where
+//! they are neighbours. RFC 3396 joins all parts of a code, in the options field and in the fields file and sname, where
+//! option 52 says that they hold options too. [`Message::find`] reads one code so, and [`Message::entries`] reads them
+//! all, each once, in the order in which they first appear.
+//!
+//! ```
+//! # let mut bytes = [0; 264];
+//! # bytes[236..240].copy_from_slice(&[99, 130, 83, 99]);
+//! # bytes[240..252].copy_from_slice(b"\x34\x01\x01\x43\x07/diskle");
+//! # bytes[252..].copy_from_slice(b"\x0C\x02ho\x35\x01\x03\x0C\x02st\xFF");
+//! # bytes[108..117].copy_from_slice(b"\x43\x06ss/foo\xFF");
+//! use sindovaleph::{EntryRow, Message, Overload, Refusal, Value, codes};
+//!
+//! // A name of a boot file that begins in the options field and ends in file, as in RFC 3396, section 8; and a host
+//! // name that is split around another option.
+//! let message = Message::new(&bytes)?;
+//! assert_eq!(message.overload()?, Overload::File);
+//! let mut join = [0; 4096];
+//! let file = message.find(codes::BOOTFILE_NAME, &mut join)?;
+//! assert_eq!(file.map(|opt| opt.data()), Some(&b"/diskless/foo"[..]));
+//!
+//! for opt in message.entries(&mut join) {
+//!     let opt = opt?;
+//!     if opt.code() == codes::HOSTNAME {
+//!         assert_eq!((opt.read()?, opt.parts()), (Value::Text("host"), 2));
+//!     }
+//! }
+//!
+//! let mut rows = [EntryRow::default(); 254];
+//! assert_eq!(message.list_entries(&mut rows)?, 4);
+//! assert_eq!((rows[1].code(), rows[1].parts(), rows[1].len()), (codes::BOOTFILE_NAME, 2, 13));
+//! # Ok::<(), Refusal>(())
+//! ```
+//!
+//! Use this reading for the value of an option, wherever its sender put it. Use the walk for what stands where, and for
+//! what is cut: where a field is cut ([`Refusal::FieldCut`]) or option 52 is unclear ([`Refusal::UnclearOverload`]), this
+//! reading refuses the whole message, and the walk still tells the options before the cut.
+//!
+//! A walk goes over the options field once. `find` goes over the fields a few times, and `entries` does so for each code.
+//! [`Message::list_entries`] goes over them twice, however many codes there are, and joins nothing.
+//!
 //! # Writing options
 //!
 //! ```
@@ -210,6 +253,7 @@ macro_rules! numbered {
 
 #[allow(unsafe_code)]
 pub mod calls;
+pub mod entries;
 pub mod listing;
 pub mod message;
 pub mod names;
@@ -220,11 +264,12 @@ mod shown;
 pub mod value;
 pub mod writer;
 
+pub use entries::{Entries, EntryRow, Overload};
 pub use listing::listing;
 pub use message::{Message, xid};
 pub use names::{codes, flags, message_types, ops};
 pub use options::{Ending, Opt, Options, Stop};
-pub use refusal::{NoSuchNumber, Refusal, RowRefused};
+pub use refusal::{NoSuchNumber, OptRefused, Refusal, RowRefused};
 pub use rows::{Listed, ReadRow, Row, list, read_list, read_list_strict};
 pub use value::{Element, Elements, Kind, List, NodeType, Value, kind_of, read, read_strict};
 pub use writer::{Route, WriteRow, Writer};

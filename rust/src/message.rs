@@ -1,8 +1,9 @@
 //! The message: its fixed header, and where its options stand.
 
 use crate::calls::{self, Fields};
-use crate::options::Options;
-use crate::refusal::{Refusal, checked};
+use crate::entries::{self, Entries, EntryRow, Overload};
+use crate::options::{Opt, Options};
+use crate::refusal::{OptRefused, Refusal, checked};
 use crate::rows::{self, Listed, ReadRow, Row};
 use crate::shown::{Bytes, Hardware, Text};
 use core::fmt;
@@ -123,14 +124,16 @@ impl<'a> Message<'a> {
         Ok(self.shown(CHADDR, usize::from(self.fields.hlen)))
     }
 
-    /// The server's name, up to its first zero.
+    /// The server's name, up to its first zero. Where [`Message::overload`] says that sname holds options, they are what
+    /// stands here.
     #[inline]
     #[must_use]
     pub fn sname(&self) -> &'a [u8] {
         self.shown(SNAME, usize::from(self.fields.sname))
     }
 
-    /// The name of the boot file, up to its first zero.
+    /// The name of the boot file, up to its first zero. Where [`Message::overload`] says that file holds options, they are
+    /// what stands here.
     #[inline]
     #[must_use]
     pub fn fname(&self) -> &'a [u8] {
@@ -180,6 +183,61 @@ impl<'a> Message<'a> {
     #[inline]
     pub fn read_list_strict(&self, rows: &mut [ReadRow]) -> Result<Listed, Refusal> {
         rows::read_list_strict(self.area(), 0, rows)
+    }
+
+    /// The option of a code in RFC 3396's reading, which joins all its parts in the options field and in the fields that
+    /// option 52 names, wherever they stand; nothing where it has no part, and with another magic. A value of one part is
+    /// shown where it stands, and one of several is joined in `join`: one of the message's length always suffices.
+    ///
+    /// Refused are the codes 0 and 255 ([`Refusal::NoSuchCode`]); a message whose options field is cut, or a field that
+    /// option 52 names ([`Refusal::FieldCut`]), or whose option 52 is unclear ([`Refusal::UnclearOverload`]); and a join
+    /// buffer that is too short ([`Refusal::JoinTooShort`]), with the length that is needed. `?` makes a [`Refusal`] of
+    /// each.
+    #[inline]
+    pub fn find<'j>(&self, code: u8, mut join: &'j mut [u8]) -> Result<Option<Opt<'j>>, OptRefused>
+    where
+        'a: 'j,
+    {
+        let step = calls::find(self.bytes, code, join);
+        entries::told(self.bytes, &mut join, step)
+    }
+
+    /// The option at an index in RFC 3396's reading, in the order in which codes first appear; nothing behind the last.
+    /// Refused is what [`Message::find`] refuses, but for the code.
+    #[inline]
+    pub fn entry<'j>(&self, index: usize, mut join: &'j mut [u8]) -> Result<Option<Opt<'j>>, OptRefused>
+    where
+        'a: 'j,
+    {
+        let step = calls::entry(self.bytes, index, join);
+        entries::told(self.bytes, &mut join, step)
+    }
+
+    /// All options in RFC 3396's reading, one after the other, in the order in which codes first appear. What has several
+    /// parts is joined in `join`; one of the message's length always suffices.
+    #[inline]
+    pub fn entries<'j>(&self, join: &'j mut [u8]) -> Entries<'j>
+    where
+        'a: 'j,
+    {
+        Entries::new(self.bytes, join)
+    }
+
+    /// All options in RFC 3396's reading in one call, a row for each, and how many there are: so many rows are filled, or
+    /// all, where there are fewer. 254 rows take every message. Nothing is joined, so no option is too long. Refused is a
+    /// message that RFC 3396's reading refuses: see [`Message::find`].
+    #[inline]
+    pub fn list_entries(&self, rows: &mut [EntryRow]) -> Result<usize, Refusal> {
+        let entries = calls::entries(self.bytes, calls::bare_mut(rows));
+        checked(entries.refused)?;
+        Ok(entries.codes)
+    }
+
+    /// Which fields hold options besides the options field. Refused is a message that RFC 3396's reading refuses: see
+    /// [`Message::find`].
+    #[inline]
+    pub fn overload(&self) -> Result<Overload, Refusal> {
+        Overload::of(self.bytes)
     }
 
     /// So many bytes from a start on. The header's answer has it that they are there.

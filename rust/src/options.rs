@@ -1,6 +1,6 @@
 //! The walk over an area of options.
 
-use crate::calls;
+use crate::calls::{self, Step};
 use crate::refusal::Refusal;
 use crate::shown::{Bytes, Code};
 use crate::value::{self, Value};
@@ -65,6 +65,7 @@ impl Ending {
     /// The ending that crossed as a step with a refusal or a stop. It is no method of the walk, which so can be kept in
     /// registers.
     #[cold]
+    #[inline]
     fn of(refused: u8, stop: u8, len: usize) -> Ending {
         match (Refusal::from_number(refused), Stop::from_number(stop)) {
             (Some(Refusal::JoinTooShort), _) => Ending::Needs(len),
@@ -137,16 +138,6 @@ impl<'a> Options<'a> {
     pub fn is_closed(&self) -> bool {
         self.ending == Some(Ending::Stopped(Stop::End))
     }
-
-    /// The first `len` bytes of the join buffer, which the walk then no longer has.
-    #[inline]
-    fn joined(&mut self, len: usize) -> &'a [u8] {
-        let Some((value, left)) = mem::take(&mut self.join).split_at_mut_checked(len) else {
-            return &[];
-        };
-        self.join = left;
-        value
-    }
 }
 
 impl<'a> Iterator for Options<'a> {
@@ -163,8 +154,7 @@ impl<'a> Iterator for Options<'a> {
             self.ending = Some(ending);
             return if told.is_none() { ending.refusal().map(Err) } else { None };
         }
-        let data = if step.parts == 1 { before(self.area, step.place, step.len) } else { Some(self.joined(step.len)) };
-        Some(Ok(Opt { data: data.unwrap_or(&[]), parts: step.parts, place: step.place, code: step.code }))
+        Some(Ok(opt(self.area, &mut self.join, step)))
     }
 }
 
@@ -182,7 +172,24 @@ pub(crate) fn before(area: &[u8], place: usize, len: usize) -> Option<&[u8]> {
     area.get(place.wrapping_sub(len)..place)
 }
 
-/// An option: its code and its value, whose bytes stand in the area or in the join buffer.
+/// The first `len` bytes of the join buffer, which then no longer has them.
+#[inline]
+fn joined<'a>(join: &mut &'a mut [u8], len: usize) -> &'a [u8] {
+    let Some((value, left)) = mem::take(join).split_at_mut_checked(len) else {
+        return &[];
+    };
+    *join = left;
+    value
+}
+
+/// The option that a step told, whose value stands in the lent bytes or in the join buffer.
+#[inline]
+pub(crate) fn opt<'a>(bytes: &'a [u8], join: &mut &'a mut [u8], step: Step) -> Opt<'a> {
+    let data = if step.parts == 1 { before(bytes, step.place, step.len) } else { Some(joined(join, step.len)) };
+    Opt { data: data.unwrap_or(&[]), parts: step.parts, place: step.place, code: step.code }
+}
+
+/// An option: its code and its value, whose bytes stand where they were lent or in the join buffer.
 #[derive(Clone, Copy, PartialEq, Eq)]
 pub struct Opt<'a> {
     data: &'a [u8],
@@ -227,7 +234,8 @@ impl<'a> Opt<'a> {
         self.parts
     }
 
-    /// The place in the area behind the option, where the walk goes on.
+    /// The place behind the option's last part. The walk's is a place of the area, where it goes on. Where parts are
+    /// joined over all fields, as by [`Message::find`](crate::Message::find), it is a place of the message.
     #[inline]
     #[must_use]
     pub fn place(&self) -> usize {

@@ -34,6 +34,10 @@ numbered! {
         OddPairs = 13,
         /// Strict reading: a yes/no byte is neither 0 nor 1.
         UnclearYesNo = 14,
+        /// RFC 3396's reading: the options field is cut, or one that option 52 names.
+        FieldCut = 15,
+        /// RFC 3396's reading: option 52 of the options field has more than one part, or is not one byte of 1 to 3.
+        UnclearOverload = 16,
     }
 }
 
@@ -54,6 +58,8 @@ impl fmt::Display for Refusal {
             Refusal::WidthAbove32 => "a route's width is above 32",
             Refusal::OddPairs => "a list of pairs has an odd number of addresses",
             Refusal::UnclearYesNo => "the yes/no byte is neither 0 nor 1",
+            Refusal::FieldCut => "a field that holds options is cut",
+            Refusal::UnclearOverload => "option 52 has more than one part or is not one byte of 1 to 3",
         })
     }
 }
@@ -96,11 +102,38 @@ impl From<RowRefused> for Refusal {
     }
 }
 
-/// What a number that crossed the boundary says: 0 is no refusal, and none is above 14.
+/// Why an option is refused, and what it would take to join its parts.
+#[derive(Clone, Copy, Debug, PartialEq, Eq)]
+pub struct OptRefused {
+    /// Why it is refused.
+    pub refusal: Refusal,
+    /// How many bytes its value has, where the join buffer has fewer: only then, by [`Refusal::JoinTooShort`].
+    pub needs: Option<usize>,
+}
+
+impl fmt::Display for OptRefused {
+    fn fmt(&self, f: &mut fmt::Formatter<'_>) -> fmt::Result {
+        match self.needs {
+            Some(len) => write!(f, "{}: it takes {len} bytes", self.refusal),
+            None => write!(f, "{}", self.refusal),
+        }
+    }
+}
+
+impl core::error::Error for OptRefused {}
+
+impl From<OptRefused> for Refusal {
+    #[inline]
+    fn from(refused: OptRefused) -> Refusal {
+        refused.refusal
+    }
+}
+
+/// What a number that crossed the boundary says: 0 is no refusal, and none is above 16.
 #[inline]
 pub(crate) fn checked(number: u8) -> Result<(), Refusal> {
     match number {
         0 => Ok(()),
-        _ => Err(Refusal::from_number(number).unwrap_or(Refusal::UnclearYesNo)),
+        _ => Err(Refusal::from_number(number).unwrap_or(Refusal::UnclearOverload)),
     }
 }

@@ -3,13 +3,16 @@
 //! so is a warning that does not come.
 #![deny(unreachable_patterns, unfulfilled_lint_expectations)]
 
-use sindovaleph::{Ending, Kind, Listed, Message, Options, Refusal, Row, Stop, Value, Writer, codes, list, read};
+use sindovaleph::{
+    Ending, Kind, Listed, Message, Options, Overload, Refusal, Row, Stop, Value, Writer, codes, list, read,
+};
 
 fn is_known(refusal: Refusal) -> bool {
     use Refusal::*;
     match refusal {
         MessageTooShort | TooLong | ChaddrPastEnd | PastEnd | JoinTooShort | NoSuchCode | ValueTooLong => true,
         NoRoom | OtherKind | WrongLength | NotUtf8 | WidthAbove32 | OddPairs | UnclearYesNo => true,
+        FieldCut | UnclearOverload => true,
         _ => false,
     }
 }
@@ -39,6 +42,16 @@ fn is_known_value(value: Value<'_>) -> bool {
     }
 }
 
+/// Option 52 says no more than this: no `_` is needed.
+fn number_of(overload: Overload) -> u8 {
+    match overload {
+        Overload::Neither => 0,
+        Overload::File => 1,
+        Overload::Sname => 2,
+        Overload::Both => 3,
+    }
+}
+
 fn is_known_ending(ending: Ending) -> bool {
     match ending {
         Ending::Stopped(_) | Ending::Refused(_) | Ending::Needs(_) => true,
@@ -53,6 +66,7 @@ fn a_match_needs_a_case_for_what_may_come() {
     assert!((0..=255).filter_map(Kind::from_number).all(is_known_kind));
     assert!((1..=254).filter_map(|code| read(code, &[]).ok()).all(is_known_value));
     assert!(is_known_ending(Ending::Needs(1)));
+    assert_eq!(Message::new(&[0; 240]).unwrap().overload().map(number_of), Ok(0));
 }
 
 /// What is dropped here is warned about.
@@ -87,6 +101,27 @@ fn drops_the_area(message: &Message<'_>) {
     message.area();
 }
 
+#[expect(unused_must_use)]
+fn drops_the_entries(message: &Message<'_>) {
+    message.entries(&mut []);
+}
+
+#[expect(unused_must_use)]
+fn drops_what_is_found(message: &Message<'_>) {
+    message.find(codes::HOSTNAME, &mut []);
+}
+
+#[expect(unused_must_use)]
+fn drops_why_there_are_no_more(message: &Message<'_>) {
+    message.entries(&mut []).refused();
+}
+
+#[expect(unused_must_use)]
+fn drops_the_overload(message: &Message<'_>) -> Result<(), Refusal> {
+    message.overload()?;
+    Ok(())
+}
+
 #[test]
 fn an_answer_that_matters_is_not_dropped_unseen() {
     let mut rows = [Row::default()];
@@ -95,7 +130,12 @@ fn an_answer_that_matters_is_not_dropped_unseen() {
     drops_an_ending(&Options::new(&[255], &mut []));
     drops_whether_it_is_closed(&Options::new(&[255], &mut []));
     drops_what_is_refused(&mut Writer::new(&mut [0; 9]));
-    drops_the_area(&Message::new(&[0; 240]).unwrap());
+    let message = Message::new(&[0; 240]).unwrap();
+    drops_the_area(&message);
+    drops_the_entries(&message);
+    drops_what_is_found(&message);
+    drops_why_there_are_no_more(&message);
+    assert_eq!(drops_the_overload(&message), Ok(()));
     let listed: Listed = list(&[255], 0, &mut rows).unwrap();
     assert_eq!(listed.stop, Some(Stop::End));
 }

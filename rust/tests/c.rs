@@ -106,7 +106,7 @@ fn the_names_of_the_header_have_the_same_numbers() {
         Stop::from_number(number).inspect(|stop| says("STOP", format!("{stop:?}"), number));
         Kind::from_number(number).inspect(|kind| says("KIND", format!("{kind:?}"), number));
     }
-    assert_eq!(text.lines().count(), 1 + 14 + 5 + 16);
+    assert_eq!(text.lines().count(), 1 + 16 + 5 + 16);
     compiles(c_compiler().arg("-std=c11"), "numbers.c", &text);
 }
 
@@ -145,6 +145,12 @@ fn the_example_writes_all_rows_or_none() {
     let second = format!("row 2 is refused by 8, place 2:{untouched}\n");
     let third = "3 rows are written, place 17: 9 9 53 1 5 51 4 0 0 14 16 12 4 104 111 115 116 9\n";
     assert_eq!(printed, first + &second + third);
+}
+
+#[test]
+fn the_example_finds_what_is_split() {
+    let printed = printed_by("examples/find.c");
+    assert_eq!(printed, "option 67 takes 13 bytes\n/diskless/foo\n52 67 12 53\n");
 }
 
 /// The functions of the header that take a pointer.

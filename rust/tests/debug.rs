@@ -3,7 +3,7 @@
 mod common;
 
 use common::message_with;
-use sindovaleph::{Message, Options, ReadRow, Route, Row, WriteRow, Writer, list, read, read_list};
+use sindovaleph::{EntryRow, Message, Options, ReadRow, Route, Row, WriteRow, Writer, list, read, read_list};
 use std::net::Ipv4Addr;
 
 #[test]
@@ -40,6 +40,22 @@ fn an_option_is_shown_by_its_name_and_its_value() {
     );
     let walk = "Options { area: 14 bytes, join: 0 bytes, place: 14, ending: Some(Stopped(Out)) }";
     assert_eq!(format!("{options:?}"), walk);
+}
+
+#[test]
+fn entries_are_shown_by_their_numbers() {
+    let bytes = message_with(&[12, 1, 104, 51, 0, 12, 1, 105]);
+    let message = Message::new(&bytes).unwrap();
+    let mut join = [0; 1];
+    let mut entries = message.entries(&mut join);
+    assert_eq!(format!("{entries:?}"), "Entries { message: 248 bytes, join: 1 bytes, index: 0, refused: None }");
+    assert!(entries.next().is_some_and(|opt| opt.is_err()));
+    let refused = "refused: Some(OptRefused { refusal: JoinTooShort, needs: Some(2) })";
+    assert_eq!(format!("{entries:?}"), format!("Entries {{ message: 248 bytes, join: 1 bytes, index: 0, {refused} }}"));
+    let mut rows = [EntryRow::default(); 2];
+    assert_eq!(message.list_entries(&mut rows), Ok(2));
+    assert_eq!(format!("{:?}", rows[0]), "EntryRow { code: 12 (HOSTNAME), parts: 2, len: 2, place: 248 }");
+    assert_eq!(format!("{:?}", message.overload()), "Ok(Neither)");
 }
 
 #[test]

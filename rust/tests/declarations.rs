@@ -216,8 +216,8 @@ fn assert_each_stands<T: PartialEq + std::fmt::Debug>(of: &BTreeMap<String, T>, 
 
 #[test]
 fn the_declarations_are_found() {
-    assert_eq!(rust_structs().len(), 12);
-    assert_eq!(rust_functions().len(), 30);
+    assert_eq!(rust_structs().len(), 13);
+    assert_eq!(rust_functions().len(), 34);
     assert!(rattle_structs().len() >= 5 && rattle_functions().len() >= 22, "the parser finds what stands there");
 }
 
@@ -257,7 +257,7 @@ fn the_header_has_the_same_functions() {
 }
 
 /// The version of the boundary, by its name, and the fingerprint of what is declared under it.
-const VERSION: (&str, u64) = ("sindovaleph_boundary_1", 0x7CE8_4474_1B8A_C4DB);
+const VERSION: (&str, u64) = ("sindovaleph_boundary_2", 0x9B18_1EAB_95EA_6CEB);
 
 const VERSION_BEGINS: &str = "sindovaleph_boundary_";
 
@@ -305,7 +305,7 @@ fn rows_have_the_names_and_the_order_of_what_they_hold() {
 
 #[test]
 fn sizes_and_offsets() {
-    let expected: [(&str, usize, usize, &[usize]); 12] = [
+    let expected: [(&str, usize, usize, &[usize]); 13] = [
         ("Fields", 36, 4, &[0, 4, 8, 12, 16, 20, 22, 24, 26, 28, 29, 30, 31, 32, 33, 34]),
         ("Field", 16, 8, &[0, 8]),
         ("Step", 32, 8, &[0, 1, 2, 8, 16, 24]),
@@ -313,6 +313,7 @@ fn sizes_and_offsets() {
         ("Element", 12, 4, &[0, 4, 8]),
         ("Written", 16, 8, &[0, 8]),
         ("Listed", 24, 8, &[0, 1, 8, 16]),
+        ("Entries", 16, 8, &[0, 8]),
         ("Row", 32, 8, &[0, 8, 16, 24]),
         ("ReadRow", 64, 8, &[0, 8, 16, 24, 32, 40, 48, 56]),
         ("WriteRow", 24, 8, &[0, 8, 16]),
@@ -391,6 +392,31 @@ fn the_walk_crosses() {
     assert_eq!(rows, [row, Row::default()]);
     assert_eq!(list(&area, 0, &mut rows[..1]), Listed { refused: 0, stop: 0, rows: 1, place: 11 });
     assert_eq!(list(&area, 14, &mut rows), Listed { refused: 4, stop: 0, rows: 0, place: 14 });
+}
+
+#[test]
+fn entries_cross() {
+    // Of 43 a part of 1 byte and one of 2, and in file one of 1 byte, which ends at 114; of 9 none.
+    let mut bytes = common::message_with(&[43, 1, 7, 52, 1, 1, 43, 2, 8, 9, 255]);
+    bytes[111..114].copy_from_slice(&[43, 1, 10]);
+    let mut join = [99; 6];
+    let found = Step { refused: 0, stop: 0, code: 43, parts: 3, len: 4, place: 114 };
+    assert_eq!(calls::find(&bytes, 43, &mut join), found);
+    assert_eq!(join, [7, 8, 9, 10, 99, 99]);
+    let out = Step { refused: 0, stop: 1, code: 0, parts: 0, len: 0, place: 0 };
+    assert_eq!((calls::find(&bytes, 9, &mut join), calls::entry(&bytes, 2, &mut join)), (out, out));
+    let one = Step { refused: 0, stop: 0, code: 52, parts: 1, len: 1, place: 246 };
+    assert_eq!((calls::entry(&bytes, 0, &mut join), calls::entry(&bytes, 1, &mut [])), (found, one));
+    let needs = Step { refused: 5, stop: 0, code: 0, parts: 0, len: 4, place: 0 };
+    assert_eq!(calls::find(&bytes, 43, &mut join[..3]), needs);
+    let mut rows = [Row::default(); 3];
+    assert_eq!(calls::entries(&bytes, &mut rows), Entries { refused: 0, codes: 2 });
+    let second = Row { code: 52, parts: 1, len: 1, place: 246 };
+    assert_eq!(rows, [Row { code: 43, parts: 3, len: 4, place: 114 }, second, Row::default()]);
+    assert_eq!(calls::overload(&bytes), Field { refused: 0, number: 1 });
+    bytes[245] = 0x84;
+    assert_eq!(calls::overload(&bytes), Field { refused: 16, number: 0 });
+    assert_eq!(calls::entries(&bytes, &mut rows), Entries { refused: 16, codes: 0 });
 }
 
 #[test]

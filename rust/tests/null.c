@@ -56,6 +56,18 @@ static void walk(Empty none, const uint8_t *area, size_t len) {
     say_listed("sindovaleph_read_list", sindovaleph_read_list(area, len, 0, none.numbers, 0, true));
 }
 
+/* A message is read with nothing to join in and no room for a row. */
+static void read_message(Empty none, const uint8_t *message, size_t len) {
+    SindovalephField overload = sindovaleph_overload(message, len);
+    SindovalephStep found = sindovaleph_find(message, len, 12, none.bytes, 0);
+    SindovalephStep entry = sindovaleph_entry(message, len, 0, none.bytes, 0);
+    SindovalephEntries entries = sindovaleph_entries(message, len, none.numbers, 0);
+    say("sindovaleph_overload", overload.refused, overload.number, 0, 0);
+    say("sindovaleph_find", found.refused, found.stop, found.len, found.place);
+    say("sindovaleph_entry", entry.refused, entry.stop, entry.len, entry.place);
+    say("sindovaleph_entries", entries.refused, entries.codes, 0, 0);
+}
+
 /* A value is written to a room, of which so many bytes are lent. */
 static void write_values(uint8_t *to, size_t len) {
     say_written("sindovaleph_close", sindovaleph_close(to, len, 0));
@@ -90,10 +102,16 @@ static void write_nothing(Empty none, uint8_t *to, size_t len) {
 
 static void all(Empty none) {
     static const uint8_t one_part[] = {12, 1, 65, 255}, two_parts[] = {12, 1, 65, 12, 1, 66};
+    /* An option of one part, one of two, and one more in file. */
+    static const uint8_t message[] = {
+        [108] = 13, 1, 65, [236] = 99, 130, 83, 99, 52, 1, 1, 12, 1, 65, 9, 0, 12, 1, 66, 255,
+    };
     read_nothing(none);
     walk(none, none.bytes, 0);
     walk(none, one_part, sizeof one_part);
     walk(none, two_parts, sizeof two_parts);
+    read_message(none, none.bytes, 0);
+    read_message(none, message, sizeof message);
     write_values(none.bytes, 0);
     write_nothing(none, none.bytes, 0);
     write_nothing(none, room, sizeof room);

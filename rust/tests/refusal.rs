@@ -1,11 +1,11 @@
 //! The refusals by their numbers.
 
 use sindovaleph::Refusal::{self, *};
-use sindovaleph::{Kind, NoSuchNumber, RowRefused, Stop};
+use sindovaleph::{Kind, NoSuchNumber, OptRefused, RowRefused, Stop};
 use std::collections::BTreeSet;
 use std::error::Error;
 
-const ALL: [Refusal; 14] = [
+const ALL: [Refusal; 16] = [
     MessageTooShort,
     TooLong,
     ChaddrPastEnd,
@@ -20,10 +20,12 @@ const ALL: [Refusal; 14] = [
     WidthAbove32,
     OddPairs,
     UnclearYesNo,
+    FieldCut,
+    UnclearOverload,
 ];
 
 #[test]
-fn numbers_are_1_to_14() {
+fn numbers_are_1_to_16() {
     for (refusal, number) in ALL.into_iter().zip(1..) {
         assert_eq!(refusal.number(), number);
         assert_eq!(Refusal::from_number(number), Some(refusal));
@@ -48,7 +50,7 @@ fn numbers_can_be_tried() {
 #[test]
 fn each_says_a_sentence_of_its_own() {
     let sentences: BTreeSet<String> = ALL.iter().map(Refusal::to_string).collect();
-    assert_eq!(sentences.len(), 14);
+    assert_eq!(sentences.len(), 16);
     assert!(sentences.iter().all(|sentence| sentence.contains(' ') && !sentence.ends_with('.')));
 }
 
@@ -68,4 +70,14 @@ fn a_row_that_is_refused_says_which_and_why() {
     }
     let error: Box<dyn Error> = Box::new(RowRefused { row: 0, refusal: NoSuchCode });
     assert_eq!(error.to_string(), "row 0 is refused: the codes 0 and 255 have no value");
+}
+
+#[test]
+fn an_option_that_is_refused_says_why_and_what_it_needs() {
+    for refusal in ALL {
+        let refused = OptRefused { refusal, needs: None };
+        assert_eq!((refused.to_string(), Refusal::from(refused)), (refusal.to_string(), refusal));
+    }
+    let error: Box<dyn Error> = Box::new(OptRefused { refusal: JoinTooShort, needs: Some(3) });
+    assert_eq!(error.to_string(), "the room to join the option's parts in is too short: it takes 3 bytes");
 }

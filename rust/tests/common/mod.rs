@@ -50,6 +50,7 @@ pub fn layouts() -> Vec<Layout> {
         Element { refused first second }
         Written { refused place }
         Listed { refused stop rows place }
+        Entries { refused codes }
         Row { code parts len place }
         ReadRow { code parts len place refused kind number count }
         WriteRow { code start len }
