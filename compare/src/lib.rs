@@ -1,5 +1,5 @@
-//! The crate dhcproto and the library beside each other, in one process. `paper` is what document 01 says, `theirs` what the crate
-//! answers, `sindovaleph::calls` the proved side; `cases` holds them against each other, one call at a time.
+//! The crate dhcproto and the library beside each other, in one process. `paper` is what document 01 says, and ticket 1 of document 02;
+//! `theirs` is what the crate answers, `sindovaleph::calls` the proved side; `cases` holds them against each other, one call at a time.
 
 pub mod agreement;
 pub mod capture;
@@ -10,6 +10,7 @@ pub mod findings;
 pub mod known;
 pub mod lent;
 pub mod listing;
+pub mod modes;
 #[cfg(test)]
 mod name_tests;
 pub mod paper;

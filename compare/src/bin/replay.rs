@@ -2,6 +2,7 @@
 
 use compare::cases::Bench;
 use compare::findings::Findings;
+use compare::modes;
 use compare::progress::say;
 use compare::senders::{self, Index};
 use compare::stored::{self, Stored};
@@ -21,9 +22,10 @@ impl Replay {
     /// One message: compared, and entered in the table.
     fn message(&mut self, file: &str, index: &Index, message: &Stored<'_>) {
         self.bench.message(message.bytes, &[0, 1, message.bytes.len() / 2]);
+        self.bench.whole_aggregate(message.bytes);
         let found = self.bench.findings.take();
         self.found.add(&format!("{file} {}", message.number), &found);
-        self.table.add(senders::sender(index, message), message.number, &found);
+        self.table.add(senders::sender(index, message), message.number, &found, &modes::ways(message.bytes));
         self.bench.progress.tell(self.table.messages, "messages");
     }
 
@@ -43,12 +45,12 @@ impl Replay {
         troubles.is_empty()
     }
 
-    /// The table, the differences, and the verdict, with how many files could not be compared whole.
+    /// The tables, the differences, and the verdict, with how many files could not be compared whole.
     fn report(&self, troubled: usize) -> String {
         let (messages, unexplained) = (self.table.messages, self.found.unexplained);
         let not_whole = if troubled > 0 { format!(", {troubled} files not compared whole") } else { String::new() };
         let verdict = format!("{messages} messages, {unexplained} unexplained differences{not_whole}\n");
-        self.table.lines() + &self.found.lines() + &verdict
+        self.table.lines() + &self.found.lines() + &self.table.ways() + &verdict
     }
 }
 

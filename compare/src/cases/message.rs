@@ -1,4 +1,4 @@
-//! A whole message: its header, its listing, its area, and all that is in it.
+//! A whole message: its header, its listing, its area and all that is in it, in both modes.
 
 use super::Bench;
 use crate::findings::Bytes;
@@ -47,6 +47,7 @@ impl Bench {
     pub fn message(&mut self, message: &[u8], places: &[usize]) {
         self.header(message);
         self.listing(message);
+        self.aggregate(message);
         let (Some(area), Ok(theirs)) = (paper::area(message), Message::new(message)) else { return };
         self.walk(area, theirs.opts());
         self.lists(area, 0);

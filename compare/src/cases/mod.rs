@@ -1,5 +1,6 @@
-//! One call, three ways: the library has to answer what document 01 says, in everything, and so has the crate wherever it answers.
+//! One call, three ways: the library has to answer what the paper says, in everything, and so has the crate wherever it answers.
 
+mod aggregate;
 mod listing;
 mod message;
 mod rows;
@@ -50,7 +51,7 @@ impl Bench {
     fn same<T: PartialEq + Debug>(&mut self, call: Arguments<'_>, library: &T, paper: &T) {
         self.findings.cases += 1;
         if library != paper {
-            self.findings.unexplained(call, format_args!("the library says {library:?}, document 01 {paper:?}"));
+            self.findings.unexplained(call, format_args!("the library says {library:?}, the paper {paper:?}"));
         }
         if self.findings.cases.is_multiple_of(CASES_BETWEEN) {
             self.progress.tell(self.findings.cases, "cases");

@@ -73,9 +73,9 @@ impl Bench {
         self.same_rows(call, same);
     }
 
-    fn same_rows(&mut self, call: Arguments<'_>, same: bool) {
+    pub(super) fn same_rows(&mut self, call: Arguments<'_>, same: bool) {
         if !same {
-            self.findings.unexplained(call, format_args!("the rows hold other numbers than document 01 says"));
+            self.findings.unexplained(call, format_args!("the rows hold other numbers than the paper says"));
         }
     }
 

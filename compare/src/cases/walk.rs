@@ -7,6 +7,7 @@ use crate::paper::{self, Found, MOST_BYTES};
 use crate::theirs::place_of;
 use dhcproto::v4::borrowed::{DhcpOption, DhcpOptionIterator};
 use sindovaleph::calls::{self, Step};
+use std::fmt::Arguments;
 
 /// The number of the stop "out".
 const OUT: u8 = 1;
@@ -25,10 +26,15 @@ impl Bench {
             1 => self.value.extend_from_slice(&area[paper.place - paper.len..paper.place]),
             _ => self.value.extend_from_slice(&self.join.paper(join)[..joined]),
         }
-        if !self.join.settle(0..joined, join) {
-            self.findings.unexplained(call, format_args!("the join buffer holds other bytes than document 01 says"));
-        }
+        self.same_join(call, joined, join);
         paper
+    }
+
+    /// Both join buffers have to hold the same, of which the paper wrote so many bytes.
+    pub(super) fn same_join(&mut self, call: Arguments<'_>, joined: usize, size: usize) {
+        if !self.join.settle(0..joined, size) {
+            self.findings.unexplained(call, format_args!("the join buffer holds other bytes than the paper says"));
+        }
     }
 
     /// One call with join buffers of these sizes and around the one that is needed. The answer is that of the largest.

@@ -34,6 +34,8 @@ pub enum Input {
     Walk { pads: usize, area: &'static [u8], calls: usize, join: usize },
     /// A part of a message of so many bytes, all zero but the magic and what is set at places.
     Message { len: usize, set: &'static [(usize, &'static [u8])], part: Part },
+    /// A code of such a message, by RFC 3396's reading.
+    Find { len: usize, set: &'static [(usize, &'static [u8])], code: u8 },
     /// A value, read by its code.
     Read { code: u8, value: &'static [u8] },
     /// So many bytes of 7, read by their code.
@@ -129,6 +131,7 @@ impl Display for Input {
         let text = match *self {
             Input::Walk { pads, area, join, .. } => walked(pads, area, join),
             Input::Message { len, set, .. } | Input::OwnedMessage { len, set, .. } => described(len, set),
+            Input::Find { len, set, code } => format!("{}, find {code}", described(len, set)),
             Input::Read { code, value } => option(code, value),
             Input::ReadLong { code, len } => format!("{} of code {code}", count(len)),
             Input::Again { code, value } => option(code, value) + ", read and written",

@@ -1,6 +1,7 @@
 //! Where the crate, document 01, the RFCs and the port part: a row for each difference, with its smallest input.
 //! The rows are what docs/DIFFERENCES.md shows. A run asks both sides and holds the answers against the rows.
 
+mod aggregate;
 mod header;
 mod input;
 mod ours;
@@ -49,9 +50,10 @@ pub struct Matter {
 }
 
 /// All rows.
-pub const MATTERS: [Matter; 6] = [
+pub const MATTERS: [Matter; 7] = [
     Matter { title: "The walk", rows: walk::ROWS },
     Matter { title: "The header", rows: header::ROWS },
+    Matter { title: "RFC 3396's reading", rows: aggregate::ROWS },
     Matter { title: "Typed reading", rows: reading::ROWS },
     Matter { title: "Writing", rows: writing::ROWS },
     Matter { title: "Routes", rows: routes::ROWS },

@@ -35,6 +35,7 @@ pub fn answer(input: &Input) -> String {
     match *input {
         Input::Walk { pads, area, calls, join } => walk(&padded(pads, area), calls, &mut vec![0; join]),
         Input::Message { len, set, ref part } => part_of(&message(len, set), part),
+        Input::Find { len, set, code } => find(&message(len, set), code),
         Input::Read { code, value } => read(code, value),
         Input::ReadLong { code, len } => read(code, &vec![7; len]),
         Input::Again { code, value } => written(|room| calls::write_bytes(room, 0, code, value)),
@@ -99,6 +100,13 @@ fn options(area: &[u8]) -> String {
             return answers.join("; ");
         }
     }
+}
+
+/// The option of a code, by RFC 3396's reading: its places are those of the message.
+fn find(bytes: &[u8], code: u8) -> String {
+    let mut join = vec![0; ENOUGH];
+    let answer = calls::find(bytes, code, &mut join);
+    step(answer, bytes, &join)
 }
 
 /// What a value reads as, in words.

@@ -24,6 +24,7 @@ fn asked(input: &Input) -> String {
     match *input {
         Input::Walk { pads, area, calls, .. } => walk(&padded(pads, area), calls),
         Input::Message { len, set, ref part } => part_of(&message(len, set), part),
+        Input::Find { len, set, code } => find(&message(len, set), code),
         Input::Read { code, value } => told(typed(code, value)),
         Input::ReadLong { code, len } => told(typed(code, &vec![7; len])),
         Input::Again { code, value } => again(code, value),
@@ -80,6 +81,17 @@ fn part_of(bytes: &[u8], part: &Part) -> String {
         Part::Sname => shown(message.sname()),
         Part::Options => message.opts().map(|found| option(Some(found)) + "; ").collect::<String>() + NONE,
     }
+}
+
+/// What the walk gives of a code, as the crate has no other reading.
+fn find(bytes: &[u8], code: u8) -> String {
+    let message = match Message::new(bytes) {
+        Ok(message) => message,
+        Err(what) => return error(what),
+    };
+    let found = message.opts().filter(|option| u8::from(option.code()) == code).map(|found| option(Some(found)));
+    let found: Vec<String> = found.collect();
+    if found.is_empty() { NONE.into() } else { found.join("; ") }
 }
 
 /// The only option of an area, in parts of 255.

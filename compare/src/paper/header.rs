@@ -5,14 +5,15 @@ use sindovaleph::calls::{Field, Fields};
 
 const MAGIC: [u8; 4] = [99, 130, 83, 99];
 
-/// Where the fields stand that are no numbers, and the area of options.
+/// Where the fields stand that are no numbers; the magic stands behind file, and then the area of options.
 pub const CHADDR: usize = 28;
 pub const SNAME: usize = 44;
 pub const FILE: usize = 108;
+pub const FILE_END: usize = 236;
 pub const AREA: usize = 240;
 
 /// The refusal of every reader of a message: 2, then 1.
-fn refusal(message: &[u8]) -> u8 {
+pub(super) fn refusal(message: &[u8]) -> u8 {
     first_refusal(&[(message.len() > MOST_BYTES, 2), (message.len() < LEAST_MESSAGE, 1)])
 }
 
@@ -60,8 +61,8 @@ pub fn header(message: &[u8]) -> Fields {
         giaddr: number(24, 27),
         chaddr_refused: first_refusal(&[(CHADDR + usize::from(message[2]) > message.len(), 3)]),
         sname: up_to_zero(&message[SNAME..FILE]),
-        file: up_to_zero(&message[FILE..236]),
-        wrong_magic: message[236..AREA] != MAGIC,
+        file: up_to_zero(&message[FILE..FILE_END]),
+        wrong_magic: message[FILE_END..AREA] != MAGIC,
     }
 }
 

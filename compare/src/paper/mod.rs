@@ -1,6 +1,7 @@
-//! Document 01's rules, written plainly: what each call has to answer, and what it leaves in lent memory.
-//! Nothing here calls the library or the crate; only the shapes of the answers are the boundary's.
+//! The rules of document 01, and those of ticket 1 of document 02, written plainly: what each call has to answer, and what it leaves in
+//! lent memory. Nothing here calls the library or the crate; only the shapes of the answers are the boundary's.
 
+mod aggregate;
 mod header;
 mod kinds;
 mod listing;
@@ -10,7 +11,8 @@ mod values;
 mod walk;
 mod writing;
 
-pub use header::{AREA, CHADDR, FILE, SNAME, area, header, xid};
+pub use aggregate::{entries, entry, find_code, overload};
+pub use header::{AREA, CHADDR, FILE, FILE_END, SNAME, area, header, xid};
 pub use kinds::{element_size, kind_of};
 pub use listing::{listed_option, listed_stop, no_listing, number_list};
 pub use rows::{list, read_list, write_list};

@@ -3,7 +3,7 @@
 use super::{END, MOST_BYTES, PAD, first_refusal};
 use sindovaleph::calls::Step;
 
-const OUT: u8 = 1;
+pub(super) const OUT: u8 = 1;
 const AT_END: u8 = 2;
 const CUT_LENGTH: u8 = 3;
 const CUT_VALUE: u8 = 4;

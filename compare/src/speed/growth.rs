@@ -1,5 +1,6 @@
-//! How the cost grows: areas from small to the largest, full of one thing each.
+//! How the cost grows: areas from small to the largest, full of one thing each; and RFC 3396's reading of the longest messages.
 
+use super::aggregate;
 use super::case::{Case, Side, Sink, Unit};
 use super::inputs::{LENGTHS, Shape, USUAL, area_in_parts, usual_area};
 use super::walk::{by_crate, by_step};
@@ -97,5 +98,6 @@ pub fn cases() -> Vec<Case> {
         let parts = if count == 1 { "part" } else { "parts" };
         by_steps(format!("{count} {parts} of 255, by step"), &area_in_parts(count))
     }));
+    cases.extend(aggregate::growth());
     cases
 }

@@ -1,7 +1,8 @@
 //! How fast the library and the crate are, beside hand-written C as the limit: the same inputs through all, in one process, answers
 //! compared first.
-//! `walk`, `real`, `typed`, `texts`, `header`, `writing` and `growth` have the cases; `clock` and `count` measure them.
+//! `walk`, `aggregate`, `real`, `typed`, `texts`, `header`, `writing` and `growth` have the cases; `clock` and `count` measure them.
 
+mod aggregate;
 pub mod arguments;
 mod case;
 mod clock;
@@ -28,6 +29,7 @@ use std::path::PathBuf;
 fn cases(files: &[PathBuf]) -> Result<Vec<Case>, String> {
     let themes = [
         walk::usual(),
+        aggregate::cases(),
         real::cases(files)?,
         walk::joins(),
         typed::cases(),

@@ -34,12 +34,15 @@ Memory: what is lent to the library (the join, the rows, the room) is lent again
 crate's vector, into which it writes, is cleared and has its capacity already; where the crate joins parts or reads a list or a text it
 allocates, as it always does. Rows to be written and the crate's routes are made before.
 
-Inputs: the message of twelve options has 325 bytes, 85 of them its area: 53 54 51 58 59 1 3 6 15 28 12 42 and End, with usual values.
-The option that is joined has parts of 255 bytes and a last one of 180; with four parts its message has 1,200 bytes. The empty parts
-are one option, in an area of 4,096 bytes. Before a walk the library's side looks at the length and at the magic as the crate's `new`
-and `opts` do, and so does the limit's. Texts are ASCII, or characters of one, two, three and four bytes in turn; Rust's own
-`from_utf8` is held against the library there, and a static table behind a call for the kinds. \"The safe crate\" is what a service
-calls: `Message::new`, `opts` and `read` of the crate `sindovaleph`, over those calls.
+Inputs: the message of twelve options has 325 bytes, 85 of them its area: 53 54 51 58 59 1 3 6 15 28 12 42 and End, with usual
+values. The option that is joined has parts of 255 bytes and a last one of 180; with four parts its message has 1,200 bytes. The
+empty parts are one option, in an area of 4,096 bytes. Before a walk the library's side looks at the length and at the magic as the
+crate's `new` and `opts` do, and so does the limit's. \"Find\" and \"entries\" are RFC 3396's reading, the mode beside the walk: the
+option of a code, and rows of all codes, over all fields that hold options; \"walk to\" is what the walk takes to the same option. The
+crate has no such reading: its side goes over all that its walk gives, and gathers the values of the code, or the lengths by code.
+Texts are ASCII, or characters of one, two, three and four bytes in turn; Rust's own `from_utf8` is held against the library there,
+and a static table behind a call for the kinds. \"The safe crate\" is what a service calls: `Message::new`, `opts`, `find` and `read`
+of the crate `sindovaleph`, over those calls.
 ";
 
 /// What stands before the table of what was before.
@@ -65,6 +68,11 @@ cost a unit of the area of the twelve options, walked the same way. The unit is 
 and are shorter, it is an option. These, and options of one byte, are of two codes in turn, \"empty parts\" are one option of very many parts,
 \"cut\" is the same with a last part that is not whole, and \"parts of 255\" are one option that `step` joins. The crate stands beside it
 for who wants to know; there is no target between them here.
+
+The last rows are RFC 3396's reading of whole messages, by one call of `find` for the last code or by one call of `entries`. The
+ratio is against the message of the twelve options, read the same way, and the unit is a byte of the fields that are read. The
+others have 65,535 bytes: 32,647 empty parts of one code; a part of 255 bytes of each code; and empty parts of all 254 codes in turn,
+32,638 of them. In the last two, option 52 names file and sname too, which are Pads. The crate's side is gathered by hand, as above.
 ";
 
 /// How to read it.

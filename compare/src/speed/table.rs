@@ -90,7 +90,7 @@ impl Row {
         self.base.map_or(Unit::Byte, |(_, unit)| unit)
     }
 
-    /// A cost, shared by the bytes that were gone over or by the options that were found.
+    /// A cost, shared by the bytes that were gone over, or by the options or parts that were found.
     fn shared(&self, cost: Option<f64>, unit: Unit) -> Option<f64> {
         let by = match unit {
             Unit::Byte => self.size.bytes,

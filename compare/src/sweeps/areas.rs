@@ -12,18 +12,6 @@ const LONGEST: usize = 6;
 /// Join buffers that are tried beside the ones around what is needed.
 const JOIN_SIZES: [usize; 3] = [0, 1, 40];
 
-/// The next area of the same length, counted like a number; false behind the last.
-fn next_area(digits: &mut [usize]) -> bool {
-    for digit in digits.iter_mut() {
-        *digit += 1;
-        if *digit < ALPHABET.len() {
-            return true;
-        }
-        *digit = 0;
-    }
-    false
-}
-
 fn from_every_place(bench: &mut Bench, area: &[u8]) {
     bench.walk(area, DhcpOptionIterator::new(area));
     for place in 0..=area.len() + 1 {
@@ -37,14 +25,7 @@ fn from_every_place(bench: &mut Bench, area: &[u8]) {
 
 /// All of them.
 pub fn sweep(bench: &mut Bench) {
-    for len in 0..=LONGEST {
-        let mut digits = vec![0; len];
-        loop {
-            let area: Vec<u8> = digits.iter().map(|&digit| ALPHABET[digit]).collect();
-            from_every_place(bench, &area);
-            if !next_area(&mut digits) {
-                break;
-            }
-        }
+    for area in (0..=LONGEST).flat_map(|len| made::strings(&ALPHABET, len)) {
+        from_every_place(bench, &area);
     }
 }

@@ -1,6 +1,6 @@
 //! Random messages: composed of plausible options, then damaged.
 
-use super::{made, written};
+use super::{aggregate, made, written};
 use crate::cases::Bench;
 use crate::paper::{MOST_BYTES, element_size, kind_of};
 use crate::random::Random;
@@ -114,10 +114,12 @@ fn damage(random: &mut Random, message: &mut Vec<u8>) {
     }
 }
 
-/// So many random messages, half of them damaged, and with each a random write of one option and of rows of them.
+/// So many random messages, half of them damaged, and with each a random write of one option and of rows of them; with every second also
+/// a message whose options stand in several fields.
 pub fn random(bench: &mut Bench, count: u64, seed: u64) {
     let mut random = Random::new(seed);
     let mut random_rows = Random::new(!seed);
+    let mut random_fields = Random::new(seed.rotate_left(32) ^ 3396);
     let mut message = Vec::new();
     for number in 0..count {
         if number % 1_000 == 0 {
@@ -130,6 +132,9 @@ pub fn random(bench: &mut Bench, count: u64, seed: u64) {
         }
         let places = [random.below(message.len() + 2), random.below(80), random.below(12)];
         bench.message(&message, &places);
+        if number % 2 == 0 {
+            aggregate::one(&mut random_fields, bench);
+        }
         written::one(&mut random, bench);
         written::rows(&mut random_rows, bench);
     }

@@ -1,5 +1,6 @@
 //! The inputs of `compare/run`: what is gone over whole, and random messages.
 
+mod aggregate;
 mod areas;
 mod headers;
 mod limits;
@@ -19,7 +20,7 @@ type Sweep = fn(&mut Bench);
 
 /// Everything that is gone over whole.
 pub fn whole(bench: &mut Bench) {
-    let sweeps: [(&str, Sweep); 8] = [
+    let sweeps: [(&str, Sweep); 9] = [
         ("short areas", areas::sweep),
         ("headers", headers::sweep),
         ("texts", texts::sweep),
@@ -27,6 +28,7 @@ pub fn whole(bench: &mut Bench) {
         ("writing", writes::sweep),
         ("routes", routes::sweep),
         ("rows", rows::sweep),
+        ("RFC 3396's reading", aggregate::sweep),
         ("limits", limits::sweep),
     ];
     for (work, sweep) in sweeps {
