@@ -3,8 +3,8 @@
 
 #include "sindovaleph.h"
 
-/* A boot file's name that begins in the options field and ends in file, as option 52 says (RFC 3396, section 8); and a
-   host name that is split around another option. */
+/* A boot file's name in two parts (those of RFC 3396, section 8): it begins in the options field and ends in file, which
+   option 52 names; and a host name that is split around another option. */
 static const uint8_t message[] = {
     [0] = 2, 1, 6, [108] = 67, 6, 's', 's', '/', 'f', 'o', 'o', 255, [236] = 99, 130, 83, 99, 52, 1, 1, 67, 7,
     '/', 'd', 'i', 's', 'k', 'l', 'e', 12, 2, 'h', 'o', 53, 1, 5, 12, 2, 's', 't', 255,

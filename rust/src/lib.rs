@@ -114,8 +114,8 @@
 //! # bytes[108..117].copy_from_slice(b"\x43\x06ss/foo\xFF");
 //! use sindovaleph::{EntryRow, Message, Overload, Refusal, Value, codes};
 //!
-//! // A name of a boot file that begins in the options field and ends in file, as in RFC 3396, section 8; and a host
-//! // name that is split around another option.
+//! // A name of a boot file in two parts, those of RFC 3396, section 8: it begins in the options field and ends in
+//! // file; and a host name that is split around another option.
 //! let message = Message::new(&bytes)?;
 //! assert_eq!(message.overload()?, Overload::File);
 //! let mut join = [0; 4096];

@@ -62,7 +62,7 @@ fn in_three_fields() -> Vec<u8> {
     message(&[12, 1, 65, 52, 1, 3, 255, 12], &[0, 12, 1, 66, 52, 1, 9], &[12, 1, 67, 255])
 }
 
-/// The name `/diskless/foo`, split over the options field and file (RFC 3396, section 8).
+/// The name `/diskless/foo` in the two parts of RFC 3396, section 8, one in the options field and one in file.
 fn diskless() -> Vec<u8> {
     message(b"\x34\x01\x01\x43\x07/diskle\xFF", b"\x43\x06ss/foo\xFF", &[])
 }

@@ -283,11 +283,13 @@ fn the_version_is_counted_up_with_the_declarations() {
     let number = VERSION.0.trim_start_matches(VERSION_BEGINS);
     let definition = text_of(&here("../crates/sindovaleph/specs/Boundary.antt"));
     assert!(definition.contains(&format!("\nversion = {number}\n")), "the definition has the number of the name");
+    assert_eq!(env!("CARGO_PKG_VERSION_MINOR"), number, "the second number of the crate's version is the boundary's");
     let found = fingerprint(&declared());
     assert_eq!(
         found, VERSION.1,
         "what crosses the boundary has changed: count its version up, the number behind {VERSION_BEGINS} in \
-         crates/sindovaleph, src/calls.rs and include/sindovaleph.h, and put it here with the fingerprint {found:#X}"
+         crates/sindovaleph, src/calls.rs, include/sindovaleph.h and Cargo.toml, and put it here with the fingerprint \
+         {found:#X}"
     );
 }
 

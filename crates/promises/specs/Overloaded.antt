@@ -34,7 +34,7 @@ splitAround = withOptions (12 ∷ 1 ∷ 65 ∷ 1 ∷ 0 ∷ 12 ∷ 1 ∷ 66 ∷ 2
 abbrev pub everywhere : List ℕ
 everywhere = withFields (12 ∷ 1 ∷ 65 ∷ 52 ∷ 1 ∷ 3 ∷ 255 ∷ 12 ∷ []) (0 ∷ 12 ∷ 1 ∷ 66 ∷ 52 ∷ 1 ∷ 9 ∷ []) (12 ∷ 1 ∷ 67 ∷ 255 ∷ [])
 
--- RFC 3396, section 8: a boot file name, of which "/diskle" is in the options field and "ss/foo" in file
+-- RFC 3396, section 8: a boot file name in two parts. Here the first, "/diskle", stands in the options field, and the second, "ss/foo", in file
 abbrev pub diskless : List ℕ
 diskless =
     withFields (52 ∷ 1 ∷ 1 ∷ 67 ∷ 7 ∷ 47 ∷ 100 ∷ 105 ∷ 115 ∷ 107 ∷ 108 ∷ 101 ∷ 255 ∷ [])

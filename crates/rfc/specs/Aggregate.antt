@@ -45,7 +45,7 @@ unclearOverload [] = false
 unclearOverload (p ∷ []) = not (eqb (length (p .value)) 1 && within 1 3 (getD (p .value) 0 0))
 unclearOverload (p ∷ q ∷ ps) = true
 
--- what option 52 says: "1 (file), 2 (sname) or 3 (both)"; 0 where there is none
+-- what option 52 says: "1 (file), 2 (sname) or 3 (both)"; 0 where there is none. (Where it is unclear, 16 comes before anything is read by it)
 unfoldable pub overload : OptionFields → ℕ
 overload f = getD (joinedValue (overloads f)) 0 0
 
@@ -104,6 +104,7 @@ aggregateChecks message = messageChecks message ++ fieldChecks (fieldsOf message
 unfoldable pub overloadOf : List ℕ → Answer ℕ
 overloadOf message = checked (aggregateChecks message) (given (overload (fieldsOf message)))
 
+-- and those of a reading for one code: 6 comes behind 2 and 1
 unfoldable pub findChecks : List ℕ → ℕ → List Check
 findChecks message code = messageChecks message ++ check (noCode code) 6 ∷ fieldChecks (fieldsOf message)
 

@@ -56,7 +56,7 @@ unfoldable pub portionsIn : ℕ → ℕ → List ℕ → Portions
 portionsIn zero at rest = whole []
 portionsIn (suc k) at rest = goesOn (nextPortion at rest) (portionsIn k)
 
--- a field that begins at a place, read; a part takes two bytes or more, so a field has fewer parts than bytes
+-- a field that begins at a place, read; a part takes two bytes or more, so a field has no more parts than bytes
 unfoldable pub portions : ℕ → List ℕ → Portions
 portions at field = portionsIn (length field) at field
 
