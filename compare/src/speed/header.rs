@@ -111,8 +111,9 @@ impl Side for Table {
     }
 }
 
-/// The kinds of twelve codes, one call each.
+/// The kinds of twelve codes, one call each: the library's by ranges of codes, so that it holds no table.
 pub fn kinds() -> Vec<Case> {
     let codes: Vec<u8> = USUAL.iter().map(|(code, _)| *code).collect();
-    vec![Case::new("kind of 12 codes", codes.len(), Kinds(codes.clone()), Table(codes)).aims_at(1.5)]
+    let case = Case::new("kind of 12 codes", codes.len(), Kinds(codes.clone()), Table(codes));
+    vec![case.aims_at(2.0).counts_at_most(2.1)]
 }

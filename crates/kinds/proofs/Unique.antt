@@ -2,15 +2,10 @@
 -- Assumes nothing.
 use mathlib.Core.Path.{sym, _∙_}
 use Rattle.facts.proofs.Unique.{Unique}
-use Rattle.kinds.proofs.kind_in_table.Kinds as kind-in-table-kinds
-use Rattle.kinds.proofs.kind_in_table.Reads as kind-in-table
 use Rattle.kinds.proofs.kind_of.Kinds as kind-of-kinds
 use Rattle.kinds.proofs.kind_of.Reads as kind-of
 use Rattle.kinds.proofs.element_size.Kinds as element-size-kinds
 use Rattle.kinds.proofs.element_size.Reads as element-size
-
-kind-in-table-unique : Unique 0 kind-in-table-kinds.ps kind-in-table-kinds.r kind-in-table.Post
-kind-in-table-unique κs a x y s t p q = p ∙ sym q
 
 kind-of-unique : Unique 0 kind-of-kinds.ps kind-of-kinds.r kind-of.Post
 kind-of-unique κs a x y s t p q = p ∙ sym q

@@ -173,7 +173,7 @@ pub fn put_option(text: &mut [u8], at: usize, code: u8, parts: usize, value: &[u
     ensures { λ r. ⌜ (now (text .exit), r) ≡ addsAll (now (text .entry), at) (optionLine code (now (value .entry)) parts) ⌝ }
 {
     let kind = pen::put_named(text, at, b"option ", code as usize);
-    let counted = pen::put_named(text, kind, b" kind ", kinds::kind_in_table(code) as usize);
+    let counted = pen::put_named(text, kind, b" kind ", kinds::kind_of(code) as usize);
     let shown = pen::put_named(text, counted, b" parts ", parts);
     let bytes = pen::put_word(text, shown, b" value");
     let end = pen::put_spaced(text, bytes, value);

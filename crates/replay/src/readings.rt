@@ -3,7 +3,6 @@
 use crate::pages;
 use crossing::answers::Element;
 use crossing::answers::Value;
-use sindovaleph_typed::reading;
 
 // Stands before the number of a refusal.
 const REFUSED: u8 = 255;
@@ -20,7 +19,7 @@ pub(crate) fn right(input: &[u8], answer: &[u8]) -> bool {
 
 // Puts what a value reads as on the page. Answers the place behind it.
 fn read(page: &mut [u8], code: u8, value: &[u8]) -> usize {
-    let held = reading::sindovaleph_read(code, value, false);
+    let held = sindovaleph_values::sindovaleph_read(code, value, false);
     let refused = held.refused;
     if refused > 0 {
         return pages::put(page, 0, &[REFUSED, refused]);

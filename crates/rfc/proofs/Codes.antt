@@ -1,19 +1,25 @@
 -- The laws of `specs/Kinds.antt`: which numbers are kinds, the kind of code 2, and which kinds have elements of some bytes.
 -- Assumes nothing.
 use mathlib.Core.Path.{_≡_, refl}
-use Prim.Native.Nat.{ℕ, _≤_, _<_}
-use borrow.Author.Tests.{ltb-true}
-use lib.Dec.{ltb}
+use mathlib.Core.Bool.{true}
+use Prim.Native.Nat.{ℕ, _+_, _-_, _≤_, _<_}
+use borrow.Author.Tests.{ltb-true, eqb-true}
+use lib.Dec.{eqb, ltb}
 use lib.ListN.{List·getD-eq-default}
 use Rattle.facts.specs.Ranges.{lookup, within}
 use Rattle.facts.proofs.Ranges.{lookup-below}
-use Rattle.facts.proofs.Table.{each}
+use Rattle.facts.proofs.Table.{values, every, each, each-within}
 use Rattle.rfc.specs.Kinds.{kinds, kindOf, sizes, sizeOf}
 
 -- a kind is a number from 0 to 15
 pub kind-below : (code : ℕ) → kindOf code < 16
 unfolding kindOf kinds
 kind-below code = lookup-below 16 0 kinds code refl
+
+-- all codes from one to another have one kind, where it is computed at each of them
+pub kind-from-to : (low high kind : ℕ) → every (eqb kind) (values kindOf low (high + 1 - low)) ≡ true
+    → (code : ℕ) → low ≤ code → code ≤ high → kind ≡ kindOf code
+kind-from-to low high kind all code from to = eqb-true kind (kindOf code) (each-within (eqb kind) kindOf low high code all from to)
 
 -- code 2, a number of seconds, is an i32
 pub seconds-kind : kindOf 2 ≡ 9

@@ -4,10 +4,8 @@ use mathlib.Core.Path.{sym, _∙_}
 use mathlib.Core.List.{List}
 use Prim.Native.Nat.{ℕ}
 use denote.Ref.{now}
-use Rattle.facts.proofs.Unique.{Unique, UniqueLeft, UniqueByHand, together}
+use Rattle.facts.proofs.Unique.{UniqueLeft, UniqueByHand, together}
 use Rattle.crossing.proofs.Carries.{wrote-one}
-use Rattle.sindovaleph_typed.proofs.reading.sindovaleph_read.Kinds as read-kinds
-use Rattle.sindovaleph_typed.proofs.reading.sindovaleph_read.Reads as read
 use Rattle.sindovaleph_typed.proofs.writing.sindovaleph_write_address.Kinds as write-address-kinds
 use Rattle.sindovaleph_typed.proofs.writing.sindovaleph_write_address.Reads as write-address
 use Rattle.sindovaleph_typed.proofs.writing.sindovaleph_write_byte.Kinds as write-byte-kinds
@@ -39,9 +37,6 @@ use Rattle.sindovaleph_typed.proofs.writing.sindovaleph_write_u16s.Read
 use Rattle.sindovaleph_typed.proofs.writing.sindovaleph_write_codes.Kinds as write-codes-kinds
 use Rattle.sindovaleph_typed.proofs.writing.sindovaleph_write_codes.Reads as write-codes
 use Rattle.sindovaleph_typed.proofs.writing.sindovaleph_write_routes as write-routes
-
-read-unique : Unique 1 read-kinds.ps read-kinds.r read.Post
-read-unique κs a x y s t p q = p ∙ sym q
 
 write-address-unique : UniqueLeft 1 write-address-kinds.ps write-address-kinds.r write-address.Post (λ κs s. now (s .0))
 write-address-unique κs a x y s t p q = wrote-one p q

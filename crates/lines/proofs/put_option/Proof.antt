@@ -15,7 +15,7 @@ returns c =
     let counted = word .before .before .before .before .before in
     let kind = counted .before .before .before .before .before in
     let first = kind .before .before .before .before .before .before in
-    rw (← kind .before .kind-in-table .ensures)
+    rw (← kind .before .kind-of .ensures)
     (both _ _ _ (both _ _ _ (both _ _ _ (both _ _ _ (both _ _ _ (first .put-named .ensures) (kind .put-named2 .ensures))
     (counted .put-named3 .ensures)) (word .put-word .ensures)) (bytes .put-spaced .ensures)) (last .put-word2 .ensures))
 

@@ -1,5 +1,5 @@
-// Typed reading of a value. Nothing else in this archive reads one, so the compiler makes one piece of it; `sindovaleph_elements` reads an
-// element of a list.
+// The boundary to programs in Rust and in C, for a value read by its code. Nothing else in this archive reads one or asks for a code's kind,
+// so the compiler makes one piece of it; `sindovaleph_elements` reads an element of a list.
 ghost use mathlib.Core.Path.{_≡_};
 ghost use Rattle.rfc.specs.Values.{read};
 ghost use Rattle.values.specs.Reading.{modeOf};

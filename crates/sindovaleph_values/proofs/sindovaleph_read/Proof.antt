@@ -3,8 +3,8 @@
 use mathlib.Core.Path.{_∙_}
 use Rattle.crossing.proofs.Carries.{reading-crosses}
 use borrow.Author.Needs.{needs}
-use Rattle.sindovaleph_typed.proofs.reading.sindovaleph_read.Statement.{statement}
-use Rattle.sindovaleph_typed.proofs.reading.sindovaleph_read.Tie as tie
+use Rattle.sindovaleph_values.proofs.sindovaleph_read.Statement.{statement}
+use Rattle.sindovaleph_values.proofs.sindovaleph_read.Tie as tie
 
 returns : tie.Need-returns
 returns c = c .value-of .ensures ∙ reading-crosses _ _ (c .before .read .result) (c .before .read .ensures)

@@ -1,0 +1,27 @@
+-- `last` meets its contract: each range of codes has one kind.
+-- Assumes nothing.
+use mathlib.Core.Path.{refl}
+use native.Mathlib.Nat.{le-of-suc-le-suc}
+use Rattle.facts.specs.Ranges.{lookup, within}
+use Rattle.rfc.specs.Kinds.{kindOf, kinds}
+use Rattle.rfc.proofs.Codes.{kind-from-to}
+use borrow.Author.Needs.{needs}
+use Rattle.kinds.proofs.last.Statement.{statement}
+use Rattle.kinds.proofs.last.Tie as tie
+
+pub last-spec : {M : Type 1} → statement M
+unfolding kindOf kinds lookup within
+last-spec =
+    tie.close
+    (tie.spec
+    (λ c. search (needs, kind-from-to 102 105 0 refl))
+    (λ c. search (needs, kind-from-to 106 106 8 refl))
+    (λ c. search (needs, kind-from-to 107 113 0 refl))
+    (λ c. search (needs, kind-from-to 114 114 10 refl))
+    (λ c. search (needs, kind-from-to 115 117 0 refl))
+    (λ c. search (needs, kind-from-to 118 118 1 refl))
+    (λ c. search (needs, kind-from-to 119 149 0 refl))
+    (λ c. search (needs, kind-from-to 150 150 1 refl))
+    (λ c. search (needs, kind-from-to 151 151 0 refl))
+    (λ c. search (needs, kind-from-to 152 155 8 refl))
+    (λ c. search (needs, kind-from-to 156 255 0 refl, le-of-suc-le-suc)))

@@ -1,0 +1,24 @@
+-- `vendor` meets its contract: each range of codes has one kind.
+-- Assumes nothing.
+use mathlib.Core.Path.{refl}
+use Rattle.facts.specs.Ranges.{lookup, within}
+use Rattle.rfc.specs.Kinds.{kindOf, kinds}
+use Rattle.rfc.proofs.Codes.{kind-from-to}
+use borrow.Author.Needs.{needs}
+use Rattle.kinds.proofs.vendor.Statement.{statement}
+use Rattle.kinds.proofs.vendor.Tie as tie
+
+pub vendor-spec : {M : Type 1} → statement M
+unfolding kindOf kinds lookup within
+vendor-spec =
+    tie.close
+    (tie.spec
+    (λ c. search (needs, kind-from-to 0 0 0 refl))
+    (λ c. search (needs, kind-from-to 1 1 1 refl))
+    (λ c. search (needs, kind-from-to 2 2 9 refl))
+    (λ c. search (needs, kind-from-to 3 11 2 refl))
+    (λ c. search (needs, kind-from-to 12 12 10 refl))
+    (λ c. search (needs, kind-from-to 13 13 6 refl))
+    (λ c. search (needs, kind-from-to 14 15 10 refl))
+    (λ c. search (needs, kind-from-to 16 16 1 refl))
+    (λ c. search (needs, kind-from-to 17 18 10 refl)))
