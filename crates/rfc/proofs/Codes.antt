@@ -1,4 +1,5 @@
--- The laws of `specs/Kinds.antt`: which numbers are kinds, the kind of code 2, and which kinds have elements of some bytes.
+-- The laws of `specs/Kinds.antt`: which numbers are kinds, the kind of a range of codes and of code 2, and which kinds have elements of some
+-- bytes.
 -- Assumes nothing.
 use mathlib.Core.Path.{_≡_, refl}
 use mathlib.Core.Bool.{true}

@@ -1,4 +1,4 @@
--- `last` meets its contract: each range of codes has one kind.
+-- `last` meets its contract: each range of codes has one kind. (The last range ends at 255, as a code is below 256: `le-of-suc-le-suc`.)
 -- Assumes nothing.
 use mathlib.Core.Path.{refl}
 use native.Mathlib.Nat.{le-of-suc-le-suc}
