@@ -16,8 +16,8 @@ UNKNOWN = "refused in unknown words"
 FOLLOWS = (
     # A declaration cites one that was refused.
     re.compile(r"was not admitted \(it has holes or undetermined implicits, or was rejected\)"),
-    # A function without a proof file calls one that was refused.
-    re.compile(r": no proof: .*; it calls `[^`]*`, which is not proved"),
+    # A function without a proof file calls one that was refused, or several.
+    re.compile(r": no proof: .*; it calls `[^`]*`(?: and `[^`]*`)*, which (?:is|are) not proved"),
 )
 
 # The proof speaks of something that the changed code does not have, or leaves out something that it has.
