@@ -17,7 +17,8 @@ pub kind-below : (code : ℕ) → kindOf code < 16
 unfolding kindOf kinds
 kind-below code = lookup-below 16 0 kinds code refl
 
--- all codes from one to another have one kind, where it is computed at each of them
+-- a code from one to another is of this kind, where each of them is, as antt computes. (In a function that goes by ranges, the search takes
+-- both ends from the tests.)
 pub kind-from-to : (low high kind : ℕ) → every (eqb kind) (values kindOf low (high + 1 - low)) ≡ true
     → (code : ℕ) → low ≤ code → code ≤ high → kind ≡ kindOf code
 kind-from-to low high kind all code from to = eqb-true kind (kindOf code) (each-within (eqb kind) kindOf low high code all from to)

@@ -1,6 +1,5 @@
 -- `ip_host` meets its contract: each range of codes has one kind.
 -- Assumes nothing.
-use mathlib.Core.Path.{refl}
 use Rattle.facts.specs.Ranges.{lookup, within}
 use Rattle.rfc.specs.Kinds.{kindOf, kinds}
 use Rattle.rfc.proofs.Codes.{kind-from-to}
@@ -13,9 +12,9 @@ unfolding kindOf kinds lookup within
 ip-host-spec =
     tie.close
     (tie.spec
-    (λ c. search (needs, kind-from-to 19 20 5 refl))
-    (λ c. search (needs, kind-from-to 21 21 3 refl))
-    (λ c. search (needs, kind-from-to 22 22 6 refl))
-    (λ c. search (needs, kind-from-to 23 23 4 refl))
-    (λ c. search (needs, kind-from-to 24 24 8 refl))
-    (λ c. search (needs, kind-from-to 25 25 7 refl)))
+    (λ c. search (needs, kind-from-to))
+    (λ c. search (needs, kind-from-to))
+    (λ c. search (needs, kind-from-to))
+    (λ c. search (needs, kind-from-to))
+    (λ c. search (needs, kind-from-to))
+    (λ c. search (needs, kind-from-to)))

@@ -1,6 +1,5 @@
 -- `ip_interface` meets its contract: each range of codes has one kind.
 -- Assumes nothing.
-use mathlib.Core.Path.{refl}
 use Rattle.facts.specs.Ranges.{lookup, within}
 use Rattle.rfc.specs.Kinds.{kindOf, kinds}
 use Rattle.rfc.proofs.Codes.{kind-from-to}
@@ -13,9 +12,9 @@ unfolding kindOf kinds lookup within
 ip-interface-spec =
     tie.close
     (tie.spec
-    (λ c. search (needs, kind-from-to 26 26 6 refl))
-    (λ c. search (needs, kind-from-to 27 27 5 refl))
-    (λ c. search (needs, kind-from-to 28 28 1 refl))
-    (λ c. search (needs, kind-from-to 29 31 5 refl))
-    (λ c. search (needs, kind-from-to 32 32 1 refl))
-    (λ c. search (needs, kind-from-to 33 33 3 refl)))
+    (λ c. search (needs, kind-from-to))
+    (λ c. search (needs, kind-from-to))
+    (λ c. search (needs, kind-from-to))
+    (λ c. search (needs, kind-from-to))
+    (λ c. search (needs, kind-from-to))
+    (λ c. search (needs, kind-from-to)))

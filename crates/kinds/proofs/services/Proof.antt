@@ -1,6 +1,5 @@
 -- `services` meets its contract: each range of codes has one kind.
 -- Assumes nothing.
-use mathlib.Core.Path.{refl}
 use Rattle.facts.specs.Ranges.{lookup, within}
 use Rattle.rfc.specs.Kinds.{kindOf, kinds}
 use Rattle.rfc.proofs.Codes.{kind-from-to}
@@ -13,10 +12,10 @@ unfolding kindOf kinds lookup within
 services-spec =
     tie.close
     (tie.spec
-    (λ c. search (needs, kind-from-to 40 40 10 refl))
-    (λ c. search (needs, kind-from-to 41 42 2 refl))
-    (λ c. search (needs, kind-from-to 43 43 0 refl))
-    (λ c. search (needs, kind-from-to 44 45 2 refl))
-    (λ c. search (needs, kind-from-to 46 46 12 refl))
-    (λ c. search (needs, kind-from-to 47 47 10 refl))
-    (λ c. search (needs, kind-from-to 48 49 2 refl)))
+    (λ c. search (needs, kind-from-to))
+    (λ c. search (needs, kind-from-to))
+    (λ c. search (needs, kind-from-to))
+    (λ c. search (needs, kind-from-to))
+    (λ c. search (needs, kind-from-to))
+    (λ c. search (needs, kind-from-to))
+    (λ c. search (needs, kind-from-to)))

@@ -1,6 +1,5 @@
 -- `tcp` meets its contract: each range of codes has one kind.
 -- Assumes nothing.
-use mathlib.Core.Path.{refl}
 use Rattle.facts.specs.Ranges.{lookup, within}
 use Rattle.rfc.specs.Kinds.{kindOf, kinds}
 use Rattle.rfc.proofs.Codes.{kind-from-to}
@@ -13,6 +12,6 @@ unfolding kindOf kinds lookup within
 tcp-spec =
     tie.close
     (tie.spec
-    (λ c. search (needs, kind-from-to 37 37 4 refl))
-    (λ c. search (needs, kind-from-to 38 38 8 refl))
-    (λ c. search (needs, kind-from-to 39 39 5 refl)))
+    (λ c. search (needs, kind-from-to))
+    (λ c. search (needs, kind-from-to))
+    (λ c. search (needs, kind-from-to)))
