@@ -40,8 +40,8 @@ pub const THREE_BYTES: u8 = 14;
 
 pub const FLAG: u8 = 15;
 
-// The kind of a code, 0 to 15, as the function of its section has it. The codes below DHCP's own section, which every message has codes of,
-// are asked for as a whole first.
+// The kind of a code, 0 to 15, as the function of its section has it. All sections before DHCP's own stand behind one test: DHCP's own codes,
+// of which every DHCP message has some, are then two tests away.
 pub fn kind_of(code: u8) -> u8
     ensures { λ r. ⌜ r ≡ kindOf code ⌝ }
 {

@@ -1,4 +1,4 @@
--- `vendor` meets its contract: each range of codes has one kind.
+-- `vendor` meets its contract: each range of codes has one kind. (The first range begins at 0, which no test says.)
 -- Assumes nothing.
 use mathlib.Core.Path.{refl}
 use Rattle.facts.specs.Ranges.{lookup, within}
