@@ -8,6 +8,7 @@
 
 #define MOST_BYTES 65535
 #define END 255
+#define HOME_AGENTS 68
 #define RARE(test) __builtin_expect(test, 0)
 #define IN_PLACE static inline __attribute__((always_inline))
 #define APART static __attribute__((noinline))
@@ -83,9 +84,10 @@ static SindovalephValue number_of(uint8_t kind, uint32_t number)
     return (SindovalephValue){0, kind, number, 0};
 }
 
-static SindovalephValue list_of(uint8_t kind, size_t n, size_t element)
+/* `some`: the list has an element at least. */
+static SindovalephValue list_of(uint8_t kind, size_t n, size_t element, bool some)
 {
-    return n % element ? refused_value(10) : (SindovalephValue){0, kind, 0, n / element};
+    return n % element || (some && n == 0) ? refused_value(10) : (SindovalephValue){0, kind, 0, n / element};
 }
 
 static bool wrong_size(size_t n, size_t size, bool strict)
@@ -100,13 +102,13 @@ IN_PLACE SindovalephValue read_value(uint8_t code, const uint8_t *v, size_t n, b
     case SINDOVALEPH_KIND_ADDRESS:
         return n != 4 ? refused_value(10) : number_of(kind, big_endian(v));
     case SINDOVALEPH_KIND_ADDRESSES:
-        return list_of(kind, n, 4);
+        return list_of(kind, n, 4, strict && code != HOME_AGENTS);
     case SINDOVALEPH_KIND_PAIRS:
-        return list_of(kind, n, 8);
+        return list_of(kind, n, 8, strict);
     case SINDOVALEPH_KIND_U16S:
-        return list_of(kind, n, 2);
+        return list_of(kind, n, 2, strict);
     case SINDOVALEPH_KIND_CODES:
-        return list_of(kind, n, 1);
+        return list_of(kind, n, 1, strict);
     case SINDOVALEPH_KIND_BYTE:
     case SINDOVALEPH_KIND_NODE_TYPE:
     case SINDOVALEPH_KIND_MESSAGE_TYPE:
@@ -124,6 +126,8 @@ IN_PLACE SindovalephValue read_value(uint8_t code, const uint8_t *v, size_t n, b
         return wrong_size(n, 3, strict) ? refused_value(10)
                                         : number_of(kind, (uint32_t)v[0] << 16 | (uint32_t)v[1] << 8 | v[2]);
     case SINDOVALEPH_KIND_TEXT:
+        if (strict && n == 0)
+            return refused_value(10);
         return limit_is_utf8(v, n) ? number_of(kind, 0) : refused_value(11);
     case SINDOVALEPH_KIND_FLAG:
         return strict && n ? refused_value(10) : number_of(kind, 0);

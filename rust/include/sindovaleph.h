@@ -269,7 +269,9 @@ SindovalephListed sindovaleph_read_list(const uint8_t *area, size_t area_len, si
 
 /* Typed values. */
 
-/* What the value of an option with this code reads as, plainly or strictly. */
+/* What the value of an option with this code reads as, plainly or strictly. Strict reading also asks for the exact length
+   of a number, a yes/no byte, a node type, a message type, three bytes and a flag (10), for an element in a list or a
+   text, except in code 68, which may have none (10), and for 0 or 1 in a yes/no byte (14). */
 SindovalephValue sindovaleph_read(uint8_t code, const uint8_t *value, size_t value_len, bool strict);
 
 /* Each of these writes a value of one kind, and takes a code of that kind. */

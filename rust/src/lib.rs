@@ -60,7 +60,7 @@
 //! # Typed values
 //!
 //! A code has a [`Kind`], and its value reads as that: [`read`] reads it plainly, and [`read_strict`] asks for exact
-//! lengths, and for 0 or 1 where yes or no is meant.
+//! lengths, for an element in a list or text, and for 0 or 1 where yes or no is meant.
 //!
 //! ```
 //! use sindovaleph::{Refusal, Value, codes, read, read_strict};

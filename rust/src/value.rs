@@ -140,8 +140,25 @@ pub fn read(code: u8, value: &[u8]) -> Result<Value<'_>, Refusal> {
     read_as(code, value, false)
 }
 
-/// Reads a value by its code, and asks for more: numbers, addresses, bytes and flags have exactly their length, and a
-/// yes/no byte is 0 or 1. All else is as in [`read`].
+/// Reads a value by its code, and asks for more than [`read`] does:
+///
+/// - A number, a yes/no byte, a node type, a message type, three bytes and a flag have exactly their length
+///   ([`Refusal::WrongLength`]). An address has it in [`read`] too.
+/// - A list or a text has one element at least ([`Refusal::WrongLength`]). Only the mobile IP home agents (code 68) may
+///   be none.
+/// - A yes/no byte is 0 or 1 ([`Refusal::UnclearYesNo`]).
+///
+/// It asks no more than that, and what it accepts it reads as [`read`] does. So it is not what the RFCs allow: it takes
+/// raw bytes of any length and a time-to-live of 0, which they do not, and it refuses two architectures in code 93, which
+/// RFC 4578 allows.
+///
+/// ```
+/// use sindovaleph::{Refusal, Value, codes, read, read_strict};
+///
+/// assert!(matches!(read(codes::ROUTER, &[]), Ok(Value::Addresses(routers)) if routers.is_empty()));
+/// assert_eq!(read_strict(codes::ROUTER, &[]), Err(Refusal::WrongLength));
+/// assert!(read_strict(codes::MOBILE_IP_HOME_AGENT, &[]).is_ok());
+/// ```
 #[inline]
 pub fn read_strict(code: u8, value: &[u8]) -> Result<Value<'_>, Refusal> {
     read_as(code, value, true)

@@ -185,9 +185,11 @@ fn refused_walks_stay_where_they_are() {
 
 #[test]
 fn options_are_read() {
-    let area = [19, 1, 2, 12, 1, 97, 12, 1, 98];
+    let area = [19, 1, 2, 12, 1, 97, 12, 1, 98, 3, 0, 3, 0];
     let mut join = [0; 2];
     let all: Vec<Opt> = Options::new(&area, &mut join).collect::<Result<_, _>>().unwrap();
     assert_eq!((all[0].read(), all[0].read_strict()), (Ok(Value::YesNo(false)), Err(Refusal::UnclearYesNo)));
     assert_eq!((all[1].read(), all[1].read_strict()), (Ok(Value::Text("ab")), Ok(Value::Text("ab"))));
+    assert!(matches!(all[2].read(), Ok(Value::Addresses(routers)) if routers.is_empty()));
+    assert_eq!(all[2].read_strict(), Err(Refusal::WrongLength));
 }

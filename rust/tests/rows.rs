@@ -4,7 +4,7 @@ mod common;
 
 use common::message_with;
 use sindovaleph::{
-    Listed, Message, Options, ReadRow, Refusal, Row, Stop, Value, list, read, read_list, read_list_strict,
+    Listed, Message, Options, ReadRow, Refusal, Row, Stop, Value, list, read, read_list, read_list_strict, read_strict,
 };
 
 /// A number, a name in two parts, an empty option of two parts, bytes, a Pad, a yes/no of 2, End.
@@ -109,7 +109,18 @@ fn a_message_is_listed_with_its_values() {
     assert_eq!(read(rows[1].code(), name), Ok(Value::Text("host")));
     assert_eq!((rows[1].data(message.area()), rows[1].is_empty(), rows[2].is_empty()), (None, false, true));
     assert_eq!(told(message.read_list_strict(&mut rows)), Ok((5, None, 26)));
+    assert_eq!(rows[2].value(message.area()), Err(Refusal::WrongLength));
     assert_eq!(rows[4].value(message.area()), Err(Refusal::UnclearYesNo));
+}
+
+#[test]
+fn an_empty_list_in_two_parts_is_refused_strictly() {
+    let area = [3, 0, 3, 0];
+    let mut rows = [ReadRow::default()];
+    assert_eq!(told(read_list(&area, 0, &mut rows)), Ok((1, None, 4)));
+    assert!(matches!(rows[0].value(&area), Ok(Value::Addresses(routers)) if routers.is_empty()));
+    assert_eq!(told(read_list_strict(&area, 0, &mut rows)), Ok((1, None, 4)));
+    assert_eq!((rows[0].parts(), rows[0].value(&area)), (2, Err(Refusal::WrongLength)));
 }
 
 #[test]
@@ -121,6 +132,8 @@ fn every_kind_is_read_alike_in_a_row() {
             let mut rows = [ReadRow::default()];
             assert_eq!(read_list(&area, 0, &mut rows).map(|listed| listed.rows), Ok(1));
             assert_eq!(rows[0].value(&area), read(code, &area[2..]), "code {code}, length {len}");
+            assert_eq!(read_list_strict(&area, 0, &mut rows).map(|listed| listed.rows), Ok(1));
+            assert_eq!(rows[0].value(&area), read_strict(code, &area[2..]), "strict, code {code}, length {len}");
         }
     }
 }

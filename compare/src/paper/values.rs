@@ -1,12 +1,19 @@
-//! What a value reads as, plain and strict, and the elements of a list (document 01, "Kinds of value").
+//! What a value reads as, plain and strict, and the elements of a list (document 01, "Kinds of value"; document 02,
+//! ticket 3).
 
 use super::{END, MOST_BYTES, PAD, big_endian, element_size, first_refusal, is_utf8, kind_of};
 use sindovaleph::calls::{Element, Value};
 
-/// Whether a value's length is wrong for its kind.
-fn wrong_length(kind: u8, len: usize, strict: bool) -> bool {
+/// "Option 68 alone may be empty, for "no home agents"."
+const HOME_AGENTS: u8 = 68;
+
+/// Whether a value's length is wrong for its code: "kinds 2, 3, 7, 10 and 11 with no element are refused in strict mode,
+/// code 68 excepted".
+fn wrong_length(code: u8, len: usize, strict: bool) -> bool {
+    let kind = kind_of(code);
     let size = element_size(kind);
     match kind {
+        2 | 3 | 7 | 10 | 11 if strict && len == 0 => code != HOME_AGENTS,
         1 => len != size,
         2 | 3 | 7 => !len.is_multiple_of(size),
         4..=6 | 8 | 9 | 12..=15 if strict => len != size,
@@ -24,7 +31,7 @@ fn refusal(code: u8, value: &[u8], strict: bool) -> u8 {
     if code == PAD || code == END {
         return 6;
     }
-    if wrong_length(kind, value.len(), strict) {
+    if wrong_length(code, value.len(), strict) {
         return 10;
     }
     first_refusal(&[(kind == 10 && !is_utf8(value), 11), (strict && kind == 5 && value[0] > 1, 14)])

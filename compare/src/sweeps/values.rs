@@ -16,5 +16,6 @@ pub fn sweep(bench: &mut Bench) {
                 bench.read_value(code, &value);
             }
         }
+        bench.read_in_list(&[code, 0, code, 0]);
     }
 }

@@ -10,7 +10,7 @@ use Rattle.rfc.specs.Numbers.{andThen, tooLong, tooShort, pastEnd, noCode, tooM
 use Rattle.rfc.specs.Header.{messageChecks, chaddrPart, chaddrCut, chaddrChecks, chaddr, magicRight, area}
 use Rattle.rfc.specs.Walk.{extend, furtherIn, further, joined, behind, walk, roomFor, stepChecks, step}
 use Rattle.rfc.specs.Kinds.{kinds, kindOf, sizes, sizeOf}
-use Rattle.rfc.specs.Values.{contents, widthOf, valueOf, rules, ruleFor, wrongLength, notText, unclear, readChecks, read, elements}
+use Rattle.rfc.specs.Values.{contents, widthOf, valueOf, rules, ruleFor, wrongLength, lengthMode, notText, unclear, readChecks, read, elements}
 use Rattle.rfc.specs.Writing.{partsOf, encode, writeChecks, answerTo, roomLeft, roomAfter}
 use Rattle.rfc.specs.Portions.{behindCode, nextPortion, ahead, goesOn, portionsIn, portions, isCut, partsIn, ofCode, joinedValue}
 use Rattle.rfc.specs.Aggregate.{fieldsOf, optionsRead, overloads, unclearOverload, overload, namesFile, namesSname, readNamed, fileRead, snameRead}
@@ -43,9 +43,9 @@ of-rows-written = (
 )
 
 pub of-rows-listed : OfRowsListed
-unfolding over piecesIn pieces within lookup andThen tooLong pastEnd noCode checked extend furtherIn further joined behind walk roomFor stepChecks kinds kindOf sizes sizeOf widthOf contents valueOf rules ruleFor wrongLength notText unclear readChecks read elements readUnjoined inFront listIn list
+unfolding over piecesIn pieces within lookup andThen tooLong pastEnd noCode checked extend furtherIn further joined behind walk roomFor stepChecks kinds kindOf sizes sizeOf widthOf contents valueOf rules ruleFor wrongLength lengthMode notText unclear readChecks read elements readUnjoined inFront listIn list
 of-rows-listed =
-    (refl, refl, refl, refl, refl, refl, refl, refl, refl, refl, refl, refl, refl, refl, record { told = refl; kept = refl })
+    (refl, refl, refl, refl, refl, refl, refl, refl, refl, refl, refl, refl, refl, refl, refl, refl, record { told = refl; kept = refl })
 
 pub of-entries : OfEntries
 unfolding over flatten within lookup without tooLong tooShort checked messageChecks magicRight area behindCode nextPortion ahead goesOn portionsIn portions isCut partsIn ofCode joinedValue fieldsOf optionsRead overloads unclearOverload overload namesFile namesSname readNamed fileRead snameRead fieldChecks aggregate codesOf behindLast optionFrom aggregateChecks optionsFrom entries entryRow entryRows

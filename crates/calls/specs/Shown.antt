@@ -9,7 +9,7 @@ use lib.ListN.{replicate}
 use Rattle.rfc.specs.Numbers.{given, refused, needs}
 use Rattle.rfc.specs.Header.{area, chaddr, magic}
 use Rattle.rfc.specs.Walk.{end, option, out, stop}
-use Rattle.rfc.specs.Values.{plain, read}
+use Rattle.rfc.specs.Values.{plain, read, strict}
 use Rattle.rfc.specs.Aggregate.{entries, overloadOf}
 use Rattle.crossing.specs.Carried.{valueOf}
 use Rattle.options.specs.Rows.{WroteRows, all, answerOf, notCode, outside, roomOf, rowsFrom, stuck, writeRow, writeRows}
@@ -109,6 +109,7 @@ OfRowsListed =
     (stepRow 12 (65 ∷ []) 1 3 ≡ 12 ∷ 1 ∷ 1 ∷ 3 ∷ [])
     × (valueRow (valueOf (read plain 53 (5 ∷ []))) ≡ 0 ∷ 13 ∷ 5 ∷ 0 ∷ [])
     × (readUnjoined plain 12 (65 ∷ 66 ∷ []) 2 6 ≡ needs 2)
+    × (readUnjoined strict 3 [] 2 4 ≡ refused 10)
     × (width found ≡ 4)
     × (rowOf (typed plain) 53 (5 ∷ []) 1 3 ≡ 53 ∷ 1 ∷ 1 ∷ 3 ∷ 0 ∷ 13 ∷ 5 ∷ 0 ∷ [])
     × (inFront found (stop end 4) (listIn 1 found closed) ≡ rowsTo [] (atStop end) 4)
@@ -116,6 +117,7 @@ OfRowsListed =
     × (listIn 1 found closed 0 ≡ rowsTo (12 ∷ 1 ∷ 1 ∷ 3 ∷ []) full 3)
     × (list found closed 0 7 ≡ given (rowsTo (12 ∷ 1 ∷ 1 ∷ 3 ∷ []) full 3))
     × (list found closed 5 8 ≡ refused 4)
+    × (list (typed strict) (3 ∷ 0 ∷ 3 ∷ 0 ∷ []) 0 8 ≡ given (rowsTo (3 ∷ 2 ∷ 0 ∷ 4 ∷ 10 ∷ 0 ∷ 0 ∷ 0 ∷ []) full 4))
     × (lastNumber (atStop end) ≡ 2)
     × (listedOf found 0 (list found closed 0 8) ≡ record { refused = 0; stop = 2; rows = 1; place = 4 })
     × (listedOf found 5 (list found closed 5 8) ≡ record { refused = 4; stop = 0; rows = 0; place = 5 })

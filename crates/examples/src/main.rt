@@ -1,8 +1,11 @@
-// The worked examples of writing, run: the parts and the bytes that each write takes, or its refusal; and what each typed writer writes.
+// The worked examples of writing, run: the parts and the bytes that each write takes, or its refusal; and what each typed writer writes. And
+// those of lists with no element, read in both modes.
 use borrowed::answer::Step;
 use encoder::Written;
 use routes::Route;
 use values::answer::Node;
+use values::answer::Value;
+use whole::Whole;
 
 // 192.0.2.1 and 10.0.0.0
 const GATEWAY: u32 = 3221225985;
@@ -15,6 +18,7 @@ fn main() {
     tell_others();
     tell_lists();
     tell_routes();
+    tell_empty();
 }
 
 // Byte values around one part and around the most bytes, and addresses as addresses and as a byte value.
@@ -98,6 +102,14 @@ fn tell_routes() {
     say_bytes(b"width 33", &room, wide);
 }
 
+// Routers in one part and in two, of which none has an element, and the home agents, which may be none.
+fn tell_empty() {
+    say_modes(&[3, 0]);
+    say_modes(&[3, 0, 3, 0]);
+    say_modes(&[3, 0, 3, 4, 192, 0, 2, 1]);
+    say_modes(&[68, 0]);
+}
+
 fn route(width: u8, destination: u32) -> Route {
     Route {
         width,
@@ -127,6 +139,42 @@ fn say_parts(area: &[u8]) {
         io::write_all(1, b": parts ");
         io::print_decimal(1, parts as u64);
     }
+}
+
+// What the first option of an area reads as, plain and strict.
+fn say_modes(area: &[u8]) {
+    let mut join = io::buffer();
+    let found = borrowed::step(area, 0, &mut join);
+    say_reading(
+        b"plain",
+        area,
+        whole::read_option(found, area, &join, false),
+    );
+    say_reading(
+        b"strict",
+        area,
+        whole::read_option(found, area, &join, true),
+    );
+}
+
+fn say_reading(mode: &[u8], area: &[u8], read: Whole) {
+    io::write_all(1, mode);
+    say_all(area);
+    match read {
+        Whole::Valued {
+            code: _,
+            value: Value::Addresses(count),
+            place: _,
+        } => {
+            io::write_all(1, b": addresses ");
+            io::print_decimal(1, count as u64);
+        }
+        Whole::Refused(number) => say_refused(number),
+        _ => {
+            io::write_all(1, b": no addresses");
+        }
+    }
+    io::write_all(1, b"\n");
 }
 
 // The bytes that were written at the room's front.

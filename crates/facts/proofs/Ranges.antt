@@ -73,6 +73,24 @@ lookup-below most other (row l h a ∷ rows) n e =
     go first more true = first
     go first more false = more
 
+-- two lists of the same ranges, whose answers are related row by row
+pub data Beside {A B : Type 0} (R : A → B → Type 0) : List (Row A) → List (Row B) → Type 0 where
+  none-left : Beside R [] []
+  also : {low high : ℕ} {a : A} {b : B} {xs : List (Row A)} {ys : List (Row B)} → R a b → Beside R xs ys
+      → Beside R (row low high a ∷ xs) (row low high b ∷ ys)
+
+-- then so are their answers to any number, if those to a number in no range are
+pub lookup-beside : {A B : Type 0} (R : A → B → Type 0) {other : A} {other′ : B} → R other other′ → {xs : List (Row A)} {ys : List (Row B)}
+    → Beside R xs ys → (n : ℕ) → R (lookup other xs n) (lookup other′ ys n)
+unfolding lookup
+lookup-beside R rest none-left n = rest
+lookup-beside R {other} {other′} rest (also {low} {high} {a} {b} {xs} {ys} first more) n =
+    go (within low high n) (lookup-beside R rest more n)
+  where
+    go : (t : Bool) → R (lookup other xs n) (lookup other′ ys n) → R (cond t a (lookup other xs n)) (cond t b (lookup other′ ys n))
+    go true further = first
+    go false further = further
+
 -- a number that a row of one number does not hold
 pub outside : (k n : ℕ) → (n ≡ k → ⊥) → within k k n ≡ false
 outside k n ne = go (decLt n k)

@@ -14,7 +14,7 @@ use Rattle.rfc.specs.Header.{messageChecks, magicRight, area, field, chaddrPart
 use Rattle.rfc.specs.Walk.{extend, furtherIn, further, joined, behind, walk, roomFor, stepChecks, step, joinAfter, placeAfter, end}
 use Rattle.rfc.specs.Kinds.{kinds, kindOf, sizes, sizeOf}
 use Rattle.rfc.specs.Text.{forms, lead, owes, whole, utf8From, utf8}
-use Rattle.rfc.specs.Values.{numbersOf, widthOf, contents, valueOf, rules, ruleFor, wrongLength, notText, unclear, readChecks, read, elements, elementAt, element, nodeOf, readFound, readOption}
+use Rattle.rfc.specs.Values.{numbersOf, widthOf, contents, valueOf, rules, ruleFor, wrongLength, lengthMode, u16s, notText, unclear, readChecks, read, elements, elementAt, element, nodeOf, readFound, readOption}
 use Rattle.rfc.specs.Writing.{partsOf, encode, writeChecks, answerTo, roomLeft, roomAfter, writeSlice, writeBytes, intoRoom, close}
 use Rattle.rfc.specs.Typed.{Below, digitsOf, partSize, encodeKind, otherKind, oddPairs, codeChecks, valueChecks, writeKind, writeValue, u16, noNumbers}
 use Rattle.rfc.specs.Routes.{significant, routeBytes, routesBytes, tooWide, writeRoutes}
@@ -30,7 +30,7 @@ unfolding over piecesIn pieces within lookup numberAt
 of-general = (refl, refl, refl, refl, refl, refl, refl, refl, refl, refl, refl)
 
 pub of-numbers : OfNumbers
-unfolding piecesIn pieces within lookup andThen tooLong tooShort pastEnd noElement noCode tooMuch noRoom checked firstRefusal extend furtherIn further joined behind walk roomFor stepChecks step kinds kindOf sizes sizeOf rules ruleFor wrongLength readChecks read partsOf encode follows
+unfolding piecesIn pieces within lookup andThen tooLong tooShort pastEnd noElement noCode tooMuch noRoom checked firstRefusal extend furtherIn further joined behind walk roomFor stepChecks step kinds kindOf sizes sizeOf rules ruleFor wrongLength lengthMode readChecks read partsOf encode follows
 of-numbers = (refl, refl, refl, refl, refl, refl, refl, refl, refl, refl, refl, refl, refl, refl, refl)
 
 pub of-header : OfHeader
@@ -50,8 +50,8 @@ unfolding within lookup forms lead owes whole utf8From utf8
 of-text = (refl, refl, refl, refl, refl, refl)
 
 pub of-values : OfValues
-unfolding piecesIn pieces within lookup andThen tooLong noElement noCode checked kinds kindOf sizes sizeOf forms lead owes whole utf8From utf8 numbersOf widthOf contents valueOf rules ruleFor wrongLength notText unclear readChecks read elements elementAt element nodeOf readFound readOption
-of-values = (refl, refl, refl, refl, refl, refl, refl, refl, refl, refl, refl, refl, refl, refl, refl, refl, refl, refl, refl, refl, refl)
+unfolding piecesIn pieces within lookup andThen tooLong pastEnd noElement noCode checked extend furtherIn further joined behind walk roomFor stepChecks step kinds kindOf sizes sizeOf forms lead owes whole utf8From utf8 numbersOf widthOf contents valueOf rules ruleFor wrongLength lengthMode notText unclear readChecks read elements elementAt element nodeOf readFound readOption
+of-values = (refl, refl, refl, refl, refl, refl, refl, refl, refl, refl, refl, refl, refl, refl, refl, refl, u16s, refl, refl, refl, refl, refl, refl, refl, refl, refl, refl, refl, refl, refl, refl, refl, refl)
 
 pub of-writing : OfWriting
 unfolding over piecesIn pieces tooLong pastEnd noCode tooMuch noRoom checked partsOf encode writeChecks answerTo roomLeft roomAfter writeSlice writeBytes intoRoom close

@@ -19,7 +19,7 @@ use Rattle.rfc.specs.Header.{area, chaddr, chaddrPart, field, fileField, flags,
 use Rattle.rfc.specs.Walk.{behind, cut, cutContinuation, cutLength, cutValue, end, extend, further, joinAfter, joined, option, out, placeAfter, roomFor, run, step, stop, walk}
 use Rattle.rfc.specs.Kinds.{from, has, kindOf, only, sizeOf}
 use Rattle.rfc.specs.Text.{lead, owes, tail, utf8}
-use Rattle.rfc.specs.Values.{Content, Value, atLeast, breaks, element, elementAt, elements, exactly, hNode, integer, multiple, natural, nodeOf, notText, nothing, numbers, numbersOf, plain, read, readOption, ruleFor, stopped, strict, truth, unclear, unknown, valueOf, valued, widthOf, wrongLength}
+use Rattle.rfc.specs.Values.{Content, ListOrText, Value, atLeast, breaks, element, elementAt, elements, exactly, hNode, homeAgents, integer, lengthMode, multiple, natural, nodeOf, notText, nothing, numbers, numbersOf, oneOrMore, plain, raw, read, readOption, ruleFor, stopped, strict, truth, unclear, unknown, valueOf, valued, widthOf, wrongLength}
 use Rattle.rfc.specs.Writing.{answerTo, close, encode, nextPart, partsOf, roomAfter, sizeInParts, writeBytes, writeSlice}
 use Rattle.rfc.specs.Typed.{Apart, Below, Empty, Proper, Seconds, encodeKind, oddPairs, otherKind, partSize, writeValue}
 use Rattle.rfc.specs.Routes.{routeBytes, significant, tooWide, writeRoutes}
@@ -150,19 +150,31 @@ OfValues =
     × (valueOf 9 (255 ∷ 255 ∷ 199 ∷ 192 ∷ []) ≡ value 9 (integer (negsuc 14399)))
     × (breaks multiple 4 6 ≡ true)
     × (breaks atLeast 4 6 ≡ false)
+    × (breaks oneOrMore 4 0 ≡ true)
     × (ruleFor plain 8 ≡ atLeast)
     × (ruleFor strict 8 ≡ exactly)
+    × (ruleFor plain 2 ≡ multiple)
+    × (ruleFor strict 2 ≡ oneOrMore)
     × (wrongLength plain 7 (0 ∷ 68 ∷ 1 ∷ []) ≡ true)
+    × (wrongLength strict 7 [] ≡ true)
+    × (lengthMode strict 3 ≡ strict)
+    × (lengthMode strict homeAgents ≡ plain)
+    × (ListOrText 7)
     × (notText 10 (255 ∷ []) ≡ true)
     × (unclear strict 5 (2 ∷ []) ≡ true)
     × (unclear plain 5 (2 ∷ []) ≡ false)
     × (read plain 19 (2 ∷ []) ≡ given (value 5 (truth false)))
     × (read strict 53 (5 ∷ 0 ∷ []) ≡ refused 10)
+    × (read plain 3 [] ≡ given (value 2 (numbers [])))
+    × (read strict 3 [] ≡ refused 10)
+    × (read strict 68 [] ≡ given (value 2 (numbers [])))
+    × (read strict 61 [] ≡ given (value 0 (raw [])))
     × (elements (valueOf 3 (10 ∷ 0 ∷ 0 ∷ 1 ∷ 10 ∷ 0 ∷ 0 ∷ 2 ∷ [])) ≡ (0x0a000001 ∷ 0x0a000002 ∷ []) ∷ [])
     × (element 1 (read plain 3 (10 ∷ 0 ∷ 0 ∷ 1 ∷ [])) ≡ refused 4)
     × (nodeOf 8 ≡ hNode)
     × (nodeOf 3 ≡ unknown 3)
     × (readOption plain (given (stop end 6)) ≡ given (stopped end 6))
+    × (readOption strict (step (3 ∷ 0 ∷ 3 ∷ 0 ∷ []) 0 0) ≡ refused 10)
     × (readOption strict (given (option 53 (5 ∷ []) 1 3)) ≡ given (valued 53 (value 13 (natural 5)) 3))
 
 abbrev pub OfWriting : Type 0

@@ -1,5 +1,5 @@
--- The laws of `specs/Kinds.antt`: which numbers are kinds, the kind of a range of codes and of code 2, and which kinds have elements of some
--- bytes.
+-- The laws of `specs/Kinds.antt`: which numbers are kinds, the kind of a range of codes and of single ones, and which kinds have elements of
+-- some bytes.
 -- Assumes nothing.
 use mathlib.Core.Path.{_≡_, refl}
 use mathlib.Core.Bool.{true}
@@ -10,6 +10,7 @@ use lib.ListN.{List·getD-eq-default}
 use Rattle.facts.specs.Ranges.{lookup, within}
 use Rattle.facts.proofs.Ranges.{lookup-below}
 use Rattle.facts.proofs.Table.{values, every, each, each-within}
+use Rattle.rfc.specs.Numbers.{padCode, endCode}
 use Rattle.rfc.specs.Kinds.{kinds, kindOf, sizes, sizeOf}
 
 -- a kind is a number from 0 to 15
@@ -27,6 +28,15 @@ kind-from-to low high kind all code from to = eqb-true kind (kindOf code) (each-
 pub seconds-kind : kindOf 2 ≡ 9
 unfolding kindOf kinds lookup within
 seconds-kind = refl
+
+-- the codes that no option has are raw
+pub pad-raw : kindOf padCode ≡ 0
+unfolding kindOf kinds lookup within
+pad-raw = refl
+
+pub end-raw : kindOf endCode ≡ 0
+unfolding kindOf kinds lookup within
+end-raw = refl
 
 -- every kind but the flag has elements of some bytes
 pub size-some : (kind : ℕ) → kind < 15 → 0 < sizeOf kind

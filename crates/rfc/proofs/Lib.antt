@@ -11,6 +11,7 @@ pub mod Elements
 pub mod Readings
 pub mod Writing
 pub mod Alike
+pub mod Strict
 pub mod Sofar
 pub mod Typed
 pub mod Contents

@@ -19,7 +19,7 @@ use Rattle.facts.proofs.BigEndian.{length-digits, number-digits}
 use Rattle.facts.proofs.Over.{length-over, from-over, over-over}
 use Rattle.rfc.specs.Numbers.{given, mostBytes, mostValue, endCode, noCode}
 use Rattle.rfc.specs.Kinds.{kinds, kindOf, sizeOf, sizes}
-use Rattle.rfc.specs.Values.{Content, raw, natural, integer, truth, numbers, nothing, Value, widthOf, valueOf, Rule, exactly, multiple, breaks, Mode, plain, strict, rules, ruleFor, wrongLength, notText, unclear, read, valued, readOption}
+use Rattle.rfc.specs.Values.{Content, raw, natural, integer, truth, numbers, nothing, Value, widthOf, valueOf, Rule, exactly, multiple, oneOrMore, breaks, Mode, plain, strict, rules, ruleFor, wrongLength, notText, unclear, read, valued, readOption}
 use Rattle.rfc.specs.Walk.{run, further, walk, option, step}
 use Rattle.rfc.specs.Writing.{partsOf, encode, answerTo, roomAfter, intoRoom, close}
 use Rattle.rfc.specs.Typed.{digitsOf, bytesIn, bytesOf, partSize, encodeKind, oddPairs, writeValue, Apart, Below, Seconds, Proper, bytes, address, addresses, pairs, byte, yesNo, u16, u16s, u32, i32, text, codes, nodeType, messageType, threeBytes, flag}
@@ -28,7 +28,7 @@ use Rattle.rfc.proofs.Writing.{some-value, given-left, given-fits}
 use Rattle.rfc.proofs.Parts.{walk-parts, walk-value}
 use Rattle.rfc.proofs.Values as of
 use Rattle.rfc.proofs.Elements.{listed-size}
-use Rattle.rfc.proofs.Readings.{length-by, flag-empty, read-given, strict-plain, value-given}
+use Rattle.rfc.proofs.Readings.{length-by, some-alike, flag-empty, strict-judged, read-given, strict-plain, value-given}
 use Rattle.rfc.proofs.Typed.{some-part, encode-kind, encode-flag}
 use Rattle.rfc.proofs.Contents.{digits-whole, numbers-back, seconds-below, seconds-signed}
 use Rattle.rfc.proofs.Written.{put, Written, below-16}
@@ -59,49 +59,57 @@ one kind make rule clear holds n h =
     ∙ ap (λ (l : List ℕ). of.value kind (make (number l))) (take-all (sizeOf kind) v (omega arith))
     ∙ ap (λ (k : ℕ). of.value kind (make k)) (number-digits (sizeOf kind) n h))
 
+-- whole elements, and not none
+whole : (size : ℕ) (v : List ℕ) → 0 < length v → length v % size ≡ 0 → breaks oneOrMore size (length v) ≡ false
+whole size v some rest = some-alike size (length v) (λ z. omega arith) ∙ ap not (eq-eqb _ 0 rest)
+
 -- a kind that is a list
-many : {kind width n : ℕ} → of.Listed kind width n → ruleFor strict kind ≡ multiple → ((v : List ℕ) → unclear strict kind v ≡ false)
-    → (l : List ℕ) → Below (256 ^ width) l → length (digitsOf width l) % sizeOf kind ≡ 0 → Reads kind (digitsOf width l) (numbers l)
-many {kind} {width} k rule clear l b rest =
+many : {kind width n : ℕ} → of.Listed kind width n → ruleFor strict kind ≡ oneOrMore → ((v : List ℕ) → unclear strict kind v ≡ false)
+    → (l : List ℕ) → Below (256 ^ width) l → 0 < length (digitsOf width l) → length (digitsOf width l) % sizeOf kind ≡ 0
+    → Reads kind (digitsOf width l) (numbers l)
+many {kind} {width} k rule clear l b some rest =
     let v : List ℕ = digitsOf width l in
-    taken kind v (numbers l) multiple rule (ap not (eq-eqb _ 0 rest)) (clear v)
+    taken kind v (numbers l) oneOrMore rule (whole _ v some rest) (clear v)
     (of.listed-value v k ∙ ap (λ (m : List ℕ). of.value kind (numbers m)) (numbers-back width (listed-size k .1) l b))
 
 -- a value's bytes read as it; of pairs, where they are whole ones
-reads : (kind : ℕ) (content : Content) → Proper kind content → oddPairs kind (bytesIn kind content) ≡ false
+reads : (kind : ℕ) (content : Content) → Proper kind content → (kind < 15 → 0 < length (bytesIn kind content))
+    → oddPairs kind (bytesIn kind content) ≡ false
     → Reads kind (bytesIn kind content) content
 unfolding sizeOf sizes ruleFor rules lookup within widthOf unclear oddPairs
-reads kind content (bytes v) even = taken 0 v (raw v) multiple refl (ap not (eq-eqb _ 0 (mod-one (length v)))) refl (of.raw-value v)
-reads kind content (address n h) even = one 1 natural refl (λ v. refl) (λ v. of.scalar-value v of.address) n h
-reads kind content (addresses l b) even = many of.addresses refl (λ v. refl) l b (digits-whole 4 l)
-reads kind content (pairs l b) even = many of.pairs refl (λ v. refl) l b (eqb-true _ 0 (not-false _ even))
-reads kind content (byte n h) even = one 4 natural refl (λ v. refl) (λ v. of.scalar-value v of.byte) n h
-reads kind content (yesNo true) even = taken 5 _ (truth true) exactly refl refl refl (of.scalar-value _ of.yesNo)
-reads kind content (yesNo false) even = taken 5 _ (truth false) exactly refl refl refl (of.scalar-value _ of.yesNo)
-reads kind content (u16 n h) even = one 6 natural refl (λ v. refl) (λ v. of.scalar-value v of.u16) n h
-reads kind content (u16s l b) even = many of.u16s refl (λ v. refl) l b (digits-whole 2 l)
-reads kind content (u32 n h) even = one 8 natural refl (λ v. refl) (λ v. of.scalar-value v of.u32) n h
-reads kind content (i32 z h) even =
+reads kind content (bytes v) some even = taken 0 v (raw v) multiple refl (ap not (eq-eqb _ 0 (mod-one (length v)))) refl (of.raw-value v)
+reads kind content (address n h) some even = one 1 natural refl (λ v. refl) (λ v. of.scalar-value v of.address) n h
+reads kind content (addresses l b) some even = many of.addresses refl (λ v. refl) l b (some (omega arith)) (digits-whole 4 l)
+reads kind content (pairs l b) some even = many of.pairs refl (λ v. refl) l b (some (omega arith)) (eqb-true _ 0 (not-false _ even))
+reads kind content (byte n h) some even = one 4 natural refl (λ v. refl) (λ v. of.scalar-value v of.byte) n h
+reads kind content (yesNo true) some even = taken 5 _ (truth true) exactly refl refl refl (of.scalar-value _ of.yesNo)
+reads kind content (yesNo false) some even = taken 5 _ (truth false) exactly refl refl refl (of.scalar-value _ of.yesNo)
+reads kind content (u16 n h) some even = one 6 natural refl (λ v. refl) (λ v. of.scalar-value v of.u16) n h
+reads kind content (u16s l b) some even = many of.u16s refl (λ v. refl) l b (some (omega arith)) (digits-whole 2 l)
+reads kind content (u32 n h) some even = one 8 natural refl (λ v. refl) (λ v. of.scalar-value v of.u32) n h
+reads kind content (i32 z h) some even =
     let n : ℕ = unsigned z in
     subst (λ (y : ℤ). Reads 9 (digits 4 n) (integer y)) (seconds-signed z h)
     (one 9 (λ (k : ℕ). integer (signed k)) refl (λ v. refl) (λ v. of.scalar-value v of.i32) n (seconds-below z h))
-reads kind content (text v) even = taken 10 v (raw v) multiple refl (ap not (eq-eqb _ 0 (mod-one (length v)))) refl (of.text-value v)
-reads kind content (codes l b) even = many of.codes refl (λ v. refl) l b (digits-whole 1 l)
-reads kind content (nodeType n h) even = one 12 natural refl (λ v. refl) (λ v. of.scalar-value v of.nodeType) n h
-reads kind content (messageType n h) even = one 13 natural refl (λ v. refl) (λ v. of.scalar-value v of.messageType) n h
-reads kind content (threeBytes a b c) even = taken 14 _ (raw (a ∷ b ∷ c ∷ [])) exactly refl refl refl (of.scalar-value _ of.threeBytes)
-reads kind content flag even = taken 15 [] nothing exactly refl refl refl (of.flag-value [])
+reads kind content (text v) some even = taken 10 v (raw v) oneOrMore refl (whole _ v (some (omega arith)) (mod-one (length v))) refl (of.text-value v)
+reads kind content (codes l b) some even = many of.codes refl (λ v. refl) l b (some (omega arith)) (digits-whole 1 l)
+reads kind content (nodeType n h) some even = one 12 natural refl (λ v. refl) (λ v. of.scalar-value v of.nodeType) n h
+reads kind content (messageType n h) some even = one 13 natural refl (λ v. refl) (λ v. of.scalar-value v of.messageType) n h
+reads kind content (threeBytes a b c) some even = taken 14 _ (raw (a ∷ b ∷ c ∷ [])) exactly refl refl refl (of.scalar-value _ of.threeBytes)
+reads kind content flag some even = taken 15 [] nothing exactly refl refl refl (of.flag-value [])
 
 -- so they are read, to a code of the kind: what strict reading accepts, plain reading reads alike
 value-back : (mode : Mode) (code : ℕ) (x : Value) → Proper (x .kind) (x .content) → noCode code ≡ false → kindOf code ≡ x .kind
-    → length (bytesOf x) ≤ mostBytes → oddPairs (x .kind) (bytesOf x) ≡ false → notText (x .kind) (bytesOf x) ≡ false
+    → length (bytesOf x) ≤ mostBytes → (x .kind < 15 → 0 < length (bytesOf x))
+    → oddPairs (x .kind) (bytesOf x) ≡ false → notText (x .kind) (bytesOf x) ≡ false
     → read mode code (bytesOf x) ≡ given x
-value-back mode code x p some is short even utf = go mode
+value-back mode code x p some is short held even utf = go mode
   where
     strictly : read strict code (bytesOf x) ≡ given x
     strictly =
-        let r : Reads (x .kind) (bytesOf x) (x .content) = reads (x .kind) (x .content) p even in
-        read-given strict code (bytesOf x) short some (sym is) (r .right) utf (r .clear) ∙ ap given (r .same)
+        let r : Reads (x .kind) (bytesOf x) (x .content) = reads (x .kind) (x .content) p held even in
+        read-given strict code (bytesOf x) short some (sym is) (strict-judged code (x .kind) (bytesOf x) (r .right)) utf (r .clear)
+        ∙ ap given (r .same)
 
     go : (m : Mode) → read m code (bytesOf x) ≡ given x
     go plain = strict-plain code (bytesOf x) x strictly
@@ -110,7 +118,7 @@ value-back mode code x p some is short even utf = go mode
 -- the four bytes of a number of seconds, to code 2
 pub seconds-back : (mode : Mode) (z : ℤ) → Seconds z → read mode 2 (digits 4 (unsigned z)) ≡ given (of.value 9 (integer z))
 unfolding noCode kindOf kinds lookup within sizeOf sizes oddPairs notText
-seconds-back mode z h = value-back mode 2 (of.value 9 (integer z)) (i32 z h) refl refl (omega arith) refl refl
+seconds-back mode z h = value-back mode 2 (of.value 9 (integer z)) (i32 z h) refl refl (omega arith) (λ k. omega arith) refl refl
 
 -- what is written of a kind is walked as one option
 module _ (kind code : ℕ) (v tail : List ℕ) (below-16 : kind < 16) (right : wrongLength strict kind v ≡ false)
@@ -147,12 +155,20 @@ module _ {code : ℕ} {x : Value} {room : List ℕ} {place to : ℕ} (w : Writte
   abbrev after : List ℕ
   after = roomAfter (writeValue code x room place) room place
 
+  -- where something was written, and it is no flag, the value has bytes
+  has-bytes : place < to → x .kind < 15 → 0 < length (bytesOf x)
+  has-bytes some h =
+      let kind : ℕ = x .kind in
+      let e : encodeKind kind code (bytesOf x) ≡ encode (partSize kind) code (bytesOf x) = encode-kind kind code (bytesOf x) (λ z. omega arith) in
+      some-value (partSize kind) (some-part kind h) code (bytesOf x) (omega (arith, ap length e, w .ends))
+
   -- an area that has these bytes at the place, and behind them no further part of the code
   reads-in : (mode : Mode) (area tail : List ℕ) (join : ℕ) → length area ≡ length room → drop place area ≡ here ++ tail
       → further code tail ≡ run 0 [] → place < to → mostValue ≤ join → readOption mode (step area place join) ≡ given (valued code x to)
   reads-in mode area tail join long from other some joins =
       let v : List ℕ = bytesOf x in
-      let right = reads (x .kind) (x .content) proper (w .even) .right in
+      let held : x .kind < 15 → 0 < length v = has-bytes some in
+      let right = reads (x .kind) (x .content) proper held (w .even) .right in
       let found = walk-kind (x .kind) code v tail (below-16 w) right (w .some) other place (omega (arith, w .ends)) in
       rw (
         step-walks area place join (omega (arith, w .short)) (omega (arith, w .inside)),
@@ -161,7 +177,7 @@ module _ {code : ℕ} {x : Value} {room : List ℕ} {place to : ℕ} (w : Writte
         answered join code v (found .0) (place + length here) (omega (arith, w .most)),
       )
       (value-given mode code v (found .0) (place + length here) x
-      (value-back mode code x proper (w .some) (w .is) (omega (arith, w .most)) (w .even) (w .utf)))
+      (value-back mode code x proper (w .some) (w .is) (omega (arith, w .most)) held (w .even) (w .utf)))
       ∙ ap (λ (k : ℕ). given (valued code x k)) (sym (w .ends))
 
   -- the room that it leaves, with no further part of the code behind

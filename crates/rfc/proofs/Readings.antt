@@ -2,18 +2,21 @@
 -- Assumes nothing.
 use mathlib.Core.Path.{_≡_, refl, sym, ap, _∙_}
 use Prim.Native.Nat.{ℕ, suc, _≤_, _<_}
-use mathlib.Core.Bool.{Bool, true, false, cond, not}
+use mathlib.Core.Bool.{Bool, true, false, cond, not, _||_}
 use mathlib.Core.List.{List, [], _∷_}
+use mathlib.Mathlib.Data.Bool.Basic.{or-eq-false-eq-eq-false-and-eq-false}
+use native.Mathlib.Nat.{zero-mod}
 use native.Mathlib.Omega.{arith}
 use borrow.Author.Tests.{le-ltb, eqb-true, not-false, eq-eqb, ne-eqb}
-use lib.Dec.{ltb}
+use lib.Dec.{eqb, ltb}
 use lib.ListN.{length, getD, List·getD-eq-default}
 use Rattle.facts.specs.Ranges.{lookup, within}
+use Rattle.facts.proofs.Ranges.{none-left, also, lookup-beside}
 use Rattle.rfc.specs.Numbers.{Answer, given, refused, needs, mostBytes, andThen, noCode}
 use Rattle.rfc.specs.Walk.{Found, Stop, stop, option}
 use Rattle.rfc.specs.Kinds.{kindOf, sizeOf, sizes}
 use Rattle.rfc.specs.Text.{utf8}
-use Rattle.rfc.specs.Values.{Value, valueOf, Rule, exactly, atLeast, multiple, breaks, Mode, plain, strict, rules, ruleFor, wrongLength, notText, unclear, readChecks, read, stopped, valued, readFound, readOption}
+use Rattle.rfc.specs.Values.{Value, valueOf, Rule, exactly, atLeast, multiple, oneOrMore, breaks, Mode, plain, strict, rules, ruleFor, wrongLength, homeAgents, lengthMode, notText, unclear, readChecks, read, stopped, valued, readFound, readOption}
 use Rattle.rfc.proofs.Codes.{size-some}
 use Rattle.rfc.proofs.Numbers.{here, later, refuses, Clear, done, next, clears, passes, long, not-long, given-no, refused-stands, needs-stands}
 
@@ -23,37 +26,71 @@ pub length-by : (mode : Mode) (kind : ℕ) (v : List ℕ) (rule : Rule) → rule
 unfolding wrongLength
 length-by mode kind v rule e = ap (λ (r : Rule). breaks r (sizeOf kind) (length v)) (sym e)
 
--- where a length has to be a multiple of a size, the size is not 0: only the flag's is
-pub multiple-of-some : (mode : Mode) (kind : ℕ) → kind < 16 → ruleFor mode kind ≡ multiple → 0 < sizeOf kind
+-- no element is a multiple of any size, and some are judged alike by both rules of elements
+pub none-multiple : (size : ℕ) → breaks multiple size 0 ≡ false
+none-multiple size = ap not (eq-eqb _ 0 (zero-mod size))
+
+pub some-alike : (size len : ℕ) → (len ≡ 0 → ⊥) → breaks oneOrMore size len ≡ breaks multiple size len
+some-alike size len some = rw (ne-eqb len 0 some)
+
+-- where a length is neither exact nor a least one, the size of an element is not 0: only the flag's is
+pub some-size : (mode : Mode) (kind : ℕ) → kind < 16 → (ruleFor mode kind ≡ exactly → ⊥) → (ruleFor mode kind ≡ atLeast → ⊥) → 0 < sizeOf kind
 unfolding ruleFor rules lookup within
-multiple-of-some mode kind h e =
-    let other : kind ≡ 15 → ⊥ = λ k. flag mode (ap (ruleFor mode) (sym k) ∙ e) in
+some-size mode kind h no-exactly no-least =
+    let other : kind ≡ 15 → ⊥ = λ k. flag mode (λ e. no-exactly (ap (ruleFor mode) k ∙ e)) (λ e. no-least (ap (ruleFor mode) k ∙ e)) in
     size-some kind (omega (arith, other))
   where
-    flag : (m : Mode) → ruleFor m 15 ≡ multiple → ⊥
-    flag plain f = let z : _≡_ {A = ℕ} 0 1 = cc in omega arith
-    flag strict f = let z : _≡_ {A = ℕ} 0 1 = cc in omega arith
+    flag : (m : Mode) → (ruleFor m 15 ≡ exactly → ⊥) → (ruleFor m 15 ≡ atLeast → ⊥) → ⊥
+    flag plain n o = o refl
+    flag strict n o = n refl
 
--- a length that strict reading accepts, plain reading accepts
+-- a length that strict reading accepts, plain reading accepts: the rules, row by row
 strict-length : (kind : ℕ) (v : List ℕ) → wrongLength strict kind v ≡ false → wrongLength plain kind v ≡ false
-unfolding wrongLength ruleFor rules lookup
-strict-length kind v e = go (within 1 1 kind) (within 4 6 kind) (within 8 9 kind) (within 12 15 kind) e
+unfolding wrongLength ruleFor rules
+strict-length kind v =
+    lookup-beside Accepts (λ e. e) (also (λ e. e) (also more (also least (also more (also least (also more (also least none-left))))))) kind
   where
-    least : breaks exactly (sizeOf kind) (length v) ≡ false → breaks atLeast (sizeOf kind) (length v) ≡ false
-    least f = let l = eqb-true (length v) (sizeOf kind) (not-false _ f) in le-ltb (length v) (sizeOf kind) (omega arith)
+    Accepts : Rule → Rule → Type 0
+    Accepts asked other = breaks asked (sizeOf kind) (length v) ≡ false → breaks other (sizeOf kind) (length v) ≡ false
 
-    go : (a b c d : Bool)
-        → breaks (cond a exactly (cond b exactly (cond c exactly (cond d exactly multiple)))) (sizeOf kind) (length v) ≡ false
-        → breaks (cond a exactly (cond b atLeast (cond c atLeast (cond d atLeast multiple)))) (sizeOf kind) (length v) ≡ false
-    go true b c d f = f
-    go false true c d f = least f
-    go false false true d f = least f
-    go false false false true f = least f
-    go false false false false f = f
+    least : Accepts exactly atLeast
+    least e = let l = eqb-true (length v) (sizeOf kind) (not-false _ e) in le-ltb (length v) (sizeOf kind) (omega arith)
+
+    more : Accepts oneOrMore multiple
+    more e = or-eq-false-eq-eq-false-and-eq-false (eqb (length v) 0) _ .0 e .1
 
 pub any-length : (mode : Mode) (kind : ℕ) (v : List ℕ) → wrongLength mode kind v ≡ false → wrongLength plain kind v ≡ false
 any-length plain kind v e = e
 any-length strict kind v e = strict-length kind v e
+
+-- the mode by whose rule a code's length is judged is plain or the one asked for: plain of the home agents, of other codes the one asked for
+pub plain-or-asked : (P : Mode → Type 0) (mode : Mode) (code : ℕ) → P plain → P mode → P (lengthMode mode code)
+unfolding lengthMode
+plain-or-asked P plain code p q = p
+plain-or-asked P strict code p q = go (eqb code homeAgents)
+  where
+    go : (t : Bool) → P (cond t plain strict)
+    go true = p
+    go false = q
+
+pub of-home-agents : (mode : Mode) (code : ℕ) → code ≡ homeAgents → plain ≡ lengthMode mode code
+unfolding lengthMode
+of-home-agents plain code e = refl
+of-home-agents strict code e = sym (ap (λ (t : Bool). cond t plain strict) (eq-eqb code homeAgents e))
+
+pub of-others : (mode : Mode) (code : ℕ) → (code ≡ homeAgents → ⊥) → mode ≡ lengthMode mode code
+unfolding lengthMode
+of-others plain code n = refl
+of-others strict code n = sym (ap (λ (t : Bool). cond t plain strict) (ne-eqb code homeAgents n))
+
+-- so a length that is judged right is right in plain mode, and one that is right in strict mode is judged right
+pub judged-plain : (mode : Mode) (code kind : ℕ) (v : List ℕ) → wrongLength (lengthMode mode code) kind v ≡ false
+    → wrongLength plain kind v ≡ false
+judged-plain mode code kind v =
+    plain-or-asked (λ (m : Mode). wrongLength m kind v ≡ false → wrongLength plain kind v ≡ false) mode code (λ e. e) (any-length mode kind v)
+
+pub strict-judged : (code kind : ℕ) (v : List ℕ) → wrongLength strict kind v ≡ false → wrongLength (lengthMode strict code) kind v ≡ false
+strict-judged code kind v e = plain-or-asked (λ (m : Mode). wrongLength m kind v ≡ false) strict code (strict-length kind v e) e
 
 -- a flag whose length strict reading accepts has no bytes
 pub flag-empty : (v : List ℕ) → wrongLength strict 15 v ≡ false → v ≡ []
@@ -102,11 +139,11 @@ module _ (mode : Mode) (code : ℕ) (v : List ℕ) where
 
     -- the kind, by whatever name it goes
     module _ (some : noCode code ≡ false) {kind : ℕ} (is : kind ≡ kindOf code) where
-      pub read-10 : wrongLength mode kind v ≡ true → read mode code v ≡ refused 10
+      pub read-10 : wrongLength (lengthMode mode code) kind v ≡ true → read mode code v ≡ refused 10
       unfolding read readChecks
       read-10 wrong = refuses _ (later (not-long v short) (later some (here (rw is at wrong))))
 
-      module _ (right : wrongLength mode kind v ≡ false) where
+      module _ (right : wrongLength (lengthMode mode code) kind v ≡ false) where
         pub read-11 : notText kind v ≡ true → read mode code v ≡ refused 11
         unfolding read readChecks
         read-11 wrong = refuses _ (later (not-long v short) (later some (later (rw is at right) (here (rw is at wrong)))))
@@ -131,16 +168,16 @@ read-right mode code v x e = go (passes _ (given (valueOf (kindOf code) v)) (giv
   where
     go : Clear (readChecks mode code v) × (given (valueOf (kindOf code) v) ≡ given x)
         → (wrongLength plain (kindOf code) v ≡ false) × (valueOf (kindOf code) v ≡ x)
-    go (next over (next none (next len (next text (next clear done)))), same) = (any-length mode (kindOf code) v len, cc)
+    go (next over (next none (next len (next text (next clear done)))), same) = (judged-plain mode code (kindOf code) v len, cc)
 
 -- what strict reading accepts, plain reading reads alike
 pub strict-plain : (code : ℕ) (v : List ℕ) (x : Value) → read strict code v ≡ given x → read plain code v ≡ given x
-unfolding read readChecks unclear
+unfolding read readChecks lengthMode unclear
 strict-plain code v x e = go (passes _ (given (valueOf (kindOf code) v)) (given x) (given-no x) e)
   where
     go : Clear (readChecks strict code v) × (given (valueOf (kindOf code) v) ≡ given x) → read plain code v ≡ given x
     go (next long (next pad (next len (next text (next yes-no done)))), same) =
-        clears _ (next long (next pad (next (strict-length (kindOf code) v len) (next text (next refl done))))) ∙ same
+        clears _ (next long (next pad (next (judged-plain strict code (kindOf code) v len) (next text (next refl done))))) ∙ same
 
 -- a whole option: what a call of the walk refused is not read
 pub option-refused : (mode : Mode) (k : ℕ) (answer : Answer Found) → answer ≡ refused k → readOption mode answer ≡ refused k

@@ -1,7 +1,7 @@
 -- What the value of an option reads as, by the kind of its code (RFC 2132, sections 3 to 9; document 01, "Kinds of value").
 -- Assumes nothing.
 use Prim.Native.Nat.{ℕ, _/_, _%_}
-use mathlib.Core.Bool.{Bool, false, not, _&&_}
+use mathlib.Core.Bool.{Bool, false, cond, not, _&&_, _||_}
 use mathlib.Core.List.{List, [], _∷_, map}
 use lib.Dec.{eqb, ltb}
 use lib.IntN.{ℤ}
@@ -59,23 +59,41 @@ unfoldable pub valueOf : ℕ → List ℕ → Value
 valueOf kind v =
     record { kind = kind; content = lookup nothing (contents kind v (number (take (sizeOf kind) v))) kind }
 
--- the rule for a value's length, by the size of its kind's element: exactly it or a multiple of it (RFC 2132), or at least it (document 01)
+-- the rule for a value's length, by the size of its kind's element: exactly it, at least it, a multiple of it (also none), or one element or more
 pub data Rule : Type 0 where
-  exactly atLeast multiple : Rule
+  exactly atLeast multiple oneOrMore : Rule
 
 abbrev pub breaks : Rule → ℕ → ℕ → Bool
 breaks exactly size len = not (eqb len size)
 breaks atLeast size len = ltb len size
 breaks multiple size len = not (eqb (len % size) 0)
+breaks oneOrMore size len = eqb len 0 || not (eqb (len % size) 0)
 
 -- plain reading, as the crate has it, or strict
 pub data Mode : Type 0 where
   plain strict : Mode
 
--- the rules by kind; raw bytes, text and codes have elements of one byte, so any length is a multiple
+-- the rules by kind, the same ranges in both modes; raw bytes, text and codes have elements of one byte, so any length is a multiple. Strict
+-- reading asks a single value for its exact length, and a list or text for an element, as RFC 2132 does (document 02, ticket 3)
 unfoldable pub rules : Mode → List (Row Rule)
-rules plain = row 1 1 exactly ∷ row 4 6 atLeast ∷ row 8 9 atLeast ∷ row 12 15 atLeast ∷ []
-rules strict = row 1 1 exactly ∷ row 4 6 exactly ∷ row 8 9 exactly ∷ row 12 15 exactly ∷ []
+rules plain =
+    row 1 1 exactly
+    ∷ row 2 3 multiple
+    ∷ row 4 6 atLeast
+    ∷ row 7 7 multiple
+    ∷ row 8 9 atLeast
+    ∷ row 10 11 multiple
+    ∷ row 12 15 atLeast
+    ∷ []
+rules strict =
+    row 1 1 exactly
+    ∷ row 2 3 oneOrMore
+    ∷ row 4 6 exactly
+    ∷ row 7 7 oneOrMore
+    ∷ row 8 9 exactly
+    ∷ row 10 11 oneOrMore
+    ∷ row 12 15 exactly
+    ∷ []
 
 -- the rule for a kind
 unfoldable pub ruleFor : Mode → ℕ → Rule
@@ -84,6 +102,23 @@ ruleFor mode kind = lookup multiple (rules mode) kind
 -- 10: the value's length is wrong for its kind
 unfoldable pub wrongLength : Mode → ℕ → List ℕ → Bool
 wrongLength mode kind v = breaks (ruleFor mode kind) (sizeOf kind) (length v)
+
+-- the code of the mobile IP home agents: the one list that may be empty, for "no home agents" (RFC 2132, section 8.13)
+abbrev pub homeAgents : ℕ
+homeAgents = 68
+
+-- the mode by whose rule a code's length is judged: in strict mode that of the home agents is judged as in plain (document 02, ticket 3)
+unfoldable pub lengthMode : Mode → ℕ → Mode
+lengthMode plain code = plain
+lengthMode strict code = cond (eqb code homeAgents) plain strict
+
+-- the kinds of lists and texts: what strict reading asks for an element
+pub data ListOrText : ℕ → Type 0 where
+  addresses : ListOrText 2
+  pairs : ListOrText 3
+  u16s : ListOrText 7
+  text : ListOrText 10
+  codes : ListOrText 11
 
 -- 11: text is not UTF-8
 unfoldable pub notText : ℕ → List ℕ → Bool
@@ -98,7 +133,7 @@ unfoldable pub readChecks : Mode → ℕ → List ℕ → List Check
 readChecks mode code v =
     check (tooLong v) 2
     ∷ check (noCode code) 6
-    ∷ check (wrongLength mode (kindOf code) v) 10
+    ∷ check (wrongLength (lengthMode mode code) (kindOf code) v) 10
     ∷ check (notText (kindOf code) v) 11
     ∷ check (unclear mode (kindOf code) v) 14
     ∷ []

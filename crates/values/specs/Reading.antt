@@ -8,7 +8,7 @@ use lib.ListN.{length, getD}
 use Rattle.rfc.specs.Numbers.{Answer, given, refused}
 use Rattle.rfc.specs.Values as rfc
 use Rattle.rfc.proofs.Values.{Listed}
-use Rattle.rfc.specs.Values.{raw, natural, integer, truth, numbers, nothing, numbersOf, Rule, exactly, atLeast, multiple, Mode, plain, strict, elements, nodeOf, valueOf, wrongLength}
+use Rattle.rfc.specs.Values.{raw, natural, integer, truth, numbers, nothing, numbersOf, Rule, exactly, atLeast, multiple, oneOrMore, Mode, plain, strict, elements, nodeOf, valueOf, wrongLength}
 use Rattle.values.specs.declared.answer.Node.{Node}
 use Rattle.values.specs.declared.answer.Node.the-variants.{B, P, M, H, Unknown}
 use Rattle.values.specs.declared.answer.Value.{Value}
@@ -28,6 +28,7 @@ abbrev pub ruleNumber : Rule → ℕ
 ruleNumber multiple = 0
 ruleNumber exactly = 1
 ruleNumber atLeast = 2
+ruleNumber oneOrMore = 3
 
 -- each node type's byte, and its name in the definitions
 abbrev pub byteOf : Node → ℕ

@@ -29,7 +29,7 @@ pub fn read(code: u8, value: &[u8], strict: bool) -> Reading
         return Reading::Refused(6);
     }
     let kind = kinds::kind_of(code);
-    if rules::wrong_length(kind, value, strict) {
+    if rules::wrong_length(kind, value, rules::length_strict(code, strict)) {
         return Reading::Refused(10);
     }
     if not_text(kind, value) {

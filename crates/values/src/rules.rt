@@ -1,15 +1,17 @@
 // The rule for a value's length, by its kind: data for plain reading, and data for strict.
 ghost use mathlib.Core.Path.{_≡_};
 ghost use Prim.Native.Nat.{_<_};
-ghost use Rattle.rfc.specs.Values.{ruleFor, wrongLength};
+ghost use Rattle.rfc.specs.Values.{ruleFor, wrongLength, lengthMode};
 ghost use Rattle.values.specs.Reading.{modeOf, ruleNumber};
 
-// The length is a multiple of the element's size, exactly it, or at least it.
+// The length is a multiple of the element's size, also 0; exactly it; at least it; or one element or more.
 const MULTIPLE: u8 = 0;
 
 const EXACTLY: u8 = 1;
 
 const AT_LEAST: u8 = 2;
+
+const ONE_OR_MORE: u8 = 3;
 
 // The rules of plain reading, by kind 0 to 15.
 const PLAIN: [u8; 16] = [
@@ -31,25 +33,38 @@ const PLAIN: [u8; 16] = [
     AT_LEAST, // flag
 ];
 
-// The rules of strict reading, by kind 0 to 15.
+// The rules of strict reading, by kind 0 to 15: an exact length, and one element or more in a list or text.
 const STRICT: [u8; 16] = [
-    MULTIPLE, // raw
+    MULTIPLE, // raw, also empty
     EXACTLY, // address
-    MULTIPLE, // addresses
-    MULTIPLE, // pairs
+    ONE_OR_MORE, // addresses
+    ONE_OR_MORE, // pairs
     EXACTLY, // byte
     EXACTLY, // yes/no
     EXACTLY, // u16
-    MULTIPLE, // u16 list
+    ONE_OR_MORE, // u16 list
     EXACTLY, // u32
     EXACTLY, // i32
-    MULTIPLE, // text
-    MULTIPLE, // codes
+    ONE_OR_MORE, // text
+    ONE_OR_MORE, // codes
     EXACTLY, // node type
     EXACTLY, // message type
     EXACTLY, // three bytes
     EXACTLY, // flag
 ];
+
+// The code of the one list that may be empty in strict mode too, for "no home agents" (RFC 2132, section 8.13).
+const HOME_AGENTS: u8 = 68;
+
+// Whether the length of a code's value is judged by the strict rules: that of the home agents never is.
+pub(crate) fn length_strict(code: u8, strict: bool) -> bool
+    ensures { λ r. ⌜ modeOf r ≡ lengthMode (modeOf strict) code ⌝ }
+{
+    if code == HOME_AGENTS {
+        return false;
+    }
+    strict
+}
 
 // The rule for a kind.
 fn rule_for(kind: u8, strict: bool) -> u8
@@ -74,6 +89,9 @@ fn breaks_rule(kind: u8, value: &[u8], strict: bool) -> bool
     }
     if rule == AT_LEAST {
         return value.len() < size;
+    }
+    if value.len() == 0 {
+        return rule == ONE_OR_MORE;
     }
     value.len() % size != 0
 }
