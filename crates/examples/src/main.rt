@@ -161,20 +161,20 @@ fn say_reading(mode: &[u8], area: &[u8], read: Whole) {
     io::write_all(1, mode);
     say_all(area);
     match read {
-        Whole::Valued {
-            code: _,
-            value: Value::Addresses(count),
-            place: _,
-        } => {
-            io::write_all(1, b": addresses ");
-            io::print_decimal(1, count as u64);
-        }
+        Whole::Valued { value, .. } => say_count(value),
         Whole::Refused(number) => say_refused(number),
         _ => {
-            io::write_all(1, b": no addresses");
+            io::write_all(1, b": no value");
         }
     }
     io::write_all(1, b"\n");
+}
+
+fn say_count(value: Value) {
+    if let Value::Addresses(count) = value {
+        io::write_all(1, b": addresses ");
+        io::print_decimal(1, count as u64);
+    }
 }
 
 // The bytes that were written at the room's front.

@@ -59,9 +59,9 @@ one kind make rule clear holds n h =
     ∙ ap (λ (l : List ℕ). of.value kind (make (number l))) (take-all (sizeOf kind) v (omega arith))
     ∙ ap (λ (k : ℕ). of.value kind (make k)) (number-digits (sizeOf kind) n h))
 
--- whole elements, and not none
-whole : (size : ℕ) (v : List ℕ) → 0 < length v → length v % size ≡ 0 → breaks oneOrMore size (length v) ≡ false
-whole size v some rest = some-alike size (length v) (λ z. omega arith) ∙ ap not (eq-eqb _ 0 rest)
+-- some elements, all of them whole
+one-or-more : (size : ℕ) (v : List ℕ) → 0 < length v → length v % size ≡ 0 → breaks oneOrMore size (length v) ≡ false
+one-or-more size v some rest = some-alike size (length v) (λ z. omega arith) ∙ ap not (eq-eqb _ 0 rest)
 
 -- a kind that is a list
 many : {kind width n : ℕ} → of.Listed kind width n → ruleFor strict kind ≡ oneOrMore → ((v : List ℕ) → unclear strict kind v ≡ false)
@@ -69,7 +69,7 @@ many : {kind width n : ℕ} → of.Listed kind width n → ruleFor strict kind �
     → Reads kind (digitsOf width l) (numbers l)
 many {kind} {width} k rule clear l b some rest =
     let v : List ℕ = digitsOf width l in
-    taken kind v (numbers l) oneOrMore rule (whole _ v some rest) (clear v)
+    taken kind v (numbers l) oneOrMore rule (one-or-more _ v some rest) (clear v)
     (of.listed-value v k ∙ ap (λ (m : List ℕ). of.value kind (numbers m)) (numbers-back width (listed-size k .1) l b))
 
 -- a value's bytes read as it; of pairs, where they are whole ones
@@ -91,7 +91,7 @@ reads kind content (i32 z h) some even =
     let n : ℕ = unsigned z in
     subst (λ (y : ℤ). Reads 9 (digits 4 n) (integer y)) (seconds-signed z h)
     (one 9 (λ (k : ℕ). integer (signed k)) refl (λ v. refl) (λ v. of.scalar-value v of.i32) n (seconds-below z h))
-reads kind content (text v) some even = taken 10 v (raw v) oneOrMore refl (whole _ v (some (omega arith)) (mod-one (length v))) refl (of.text-value v)
+reads kind content (text v) some even = taken 10 v (raw v) oneOrMore refl (one-or-more _ v (some (omega arith)) (mod-one (length v))) refl (of.text-value v)
 reads kind content (codes l b) some even = many of.codes refl (λ v. refl) l b (some (omega arith)) (digits-whole 1 l)
 reads kind content (nodeType n h) some even = one 12 natural refl (λ v. refl) (λ v. of.scalar-value v of.nodeType) n h
 reads kind content (messageType n h) some even = one 13 natural refl (λ v. refl) (λ v. of.scalar-value v of.messageType) n h

@@ -2,7 +2,7 @@
 -- Assumes nothing.
 use mathlib.Core.Path.{_≡_, refl, sym, ap, _∙_}
 use Prim.Native.Nat.{ℕ, suc, _≤_, _<_}
-use mathlib.Core.Bool.{Bool, true, false, cond, not, _||_}
+use mathlib.Core.Bool.{Bool, true, false, cond, not}
 use mathlib.Core.List.{List, [], _∷_}
 use mathlib.Mathlib.Data.Bool.Basic.{or-eq-false-eq-eq-false-and-eq-false}
 use native.Mathlib.Nat.{zero-mod}
@@ -26,7 +26,7 @@ pub length-by : (mode : Mode) (kind : ℕ) (v : List ℕ) (rule : Rule) → rule
 unfolding wrongLength
 length-by mode kind v rule e = ap (λ (r : Rule). breaks r (sizeOf kind) (length v)) (sym e)
 
--- no element is a multiple of any size, and some are judged alike by both rules of elements
+-- a length of 0 is a multiple of any size, and any other is judged alike by both rules of elements
 pub none-multiple : (size : ℕ) → breaks multiple size 0 ≡ false
 none-multiple size = ap not (eq-eqb _ 0 (zero-mod size))
 
@@ -63,7 +63,7 @@ pub any-length : (mode : Mode) (kind : ℕ) (v : List ℕ) → wrongLength mode 
 any-length plain kind v e = e
 any-length strict kind v e = strict-length kind v e
 
--- the mode by whose rule a code's length is judged is plain or the one asked for: plain of the home agents, of other codes the one asked for
+-- the mode by whose rule a code's length is judged is plain or the one asked for: plain for the home agents, for other codes the one asked for
 pub plain-or-asked : (P : Mode → Type 0) (mode : Mode) (code : ℕ) → P plain → P mode → P (lengthMode mode code)
 unfolding lengthMode
 plain-or-asked P plain code p q = p

@@ -59,7 +59,7 @@ unfoldable pub valueOf : ℕ → List ℕ → Value
 valueOf kind v =
     record { kind = kind; content = lookup nothing (contents kind v (number (take (sizeOf kind) v))) kind }
 
--- the rule for a value's length, by the size of its kind's element: exactly it, at least it, a multiple of it (also none), or one element or more
+-- the rule for a value's length, by the size of its kind's element: exactly it, at least it, a multiple of it (also 0), or one element or more
 pub data Rule : Type 0 where
   exactly atLeast multiple oneOrMore : Rule
 
@@ -112,7 +112,7 @@ unfoldable pub lengthMode : Mode → ℕ → Mode
 lengthMode plain code = plain
 lengthMode strict code = cond (eqb code homeAgents) plain strict
 
--- the kinds of lists and texts: what strict reading asks for an element
+-- the kinds that are lists or texts, which strict reading asks for an element
 pub data ListOrText : ℕ → Type 0 where
   addresses : ListOrText 2
   pairs : ListOrText 3
