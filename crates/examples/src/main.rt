@@ -1,5 +1,5 @@
-// The worked examples of writing, run: the parts and the bytes that each write takes, or its refusal; and what each typed writer writes. And
-// those of lists with no element, read in both modes.
+// The worked examples of writing, run: the parts and the bytes that each write takes, or its refusal; and what each typed writer writes.
+// Behind them lists of no element, read in both modes.
 use borrowed::answer::Step;
 use encoder::Written;
 use routes::Route;
@@ -102,7 +102,7 @@ fn tell_routes() {
     say_bytes(b"width 33", &room, wide);
 }
 
-// Routers in one part and in two, of which none has an element, and the home agents, which may be none.
+// Routers of no element, in one part and in two, and of one element; and the home agents, which may be none.
 fn tell_empty() {
     say_modes(&[3, 0]);
     say_modes(&[3, 0, 3, 0]);

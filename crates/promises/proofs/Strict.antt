@@ -1,6 +1,6 @@
 -- Strict reading of lists, texts and raw bytes, by the laws of `rfc`; that the home agents may be none is computed.
 -- Assumes nothing.
-use mathlib.Core.Path.{_≡_, refl}
+use mathlib.Core.Path.{refl}
 use Rattle.facts.specs.Pieces.{piecesIn, pieces}
 use Rattle.facts.specs.Ranges.{within, lookup}
 use Rattle.rfc.specs.Numbers.{tooLong, noCode, checked}

@@ -59,20 +59,7 @@ strict-length kind v =
     more : Accepts oneOrMore multiple
     more e = or-eq-false-eq-eq-false-and-eq-false (eqb (length v) 0) _ .0 e .1
 
-pub any-length : (mode : Mode) (kind : ℕ) (v : List ℕ) → wrongLength mode kind v ≡ false → wrongLength plain kind v ≡ false
-any-length plain kind v e = e
-any-length strict kind v e = strict-length kind v e
-
--- the mode by whose rule a code's length is judged is plain or the one asked for: plain for the home agents, for other codes the one asked for
-pub plain-or-asked : (P : Mode → Type 0) (mode : Mode) (code : ℕ) → P plain → P mode → P (lengthMode mode code)
-unfolding lengthMode
-plain-or-asked P plain code p q = p
-plain-or-asked P strict code p q = go (eqb code homeAgents)
-  where
-    go : (t : Bool) → P (cond t plain strict)
-    go true = p
-    go false = q
-
+-- the mode by whose rule a code's length is judged: plain for the home agents, for other codes the one asked for
 pub of-home-agents : (mode : Mode) (code : ℕ) → code ≡ homeAgents → plain ≡ lengthMode mode code
 unfolding lengthMode
 of-home-agents plain code e = refl
@@ -83,14 +70,25 @@ unfolding lengthMode
 of-others plain code n = refl
 of-others strict code n = sym (ap (λ (t : Bool). cond t plain strict) (ne-eqb code homeAgents n))
 
+-- what holds in both modes holds in that one
+pub either-mode : (P : Mode → Type 0) (code : ℕ) → P plain → P strict → P (lengthMode strict code)
+unfolding lengthMode
+either-mode P code p s = go (eqb code homeAgents)
+  where
+    go : (t : Bool) → P (cond t plain strict)
+    go true = p
+    go false = s
+
 -- so a length that is judged right is right in plain mode, and one that is right in strict mode is judged right
 pub judged-plain : (mode : Mode) (code kind : ℕ) (v : List ℕ) → wrongLength (lengthMode mode code) kind v ≡ false
     → wrongLength plain kind v ≡ false
-judged-plain mode code kind v =
-    plain-or-asked (λ (m : Mode). wrongLength m kind v ≡ false → wrongLength plain kind v ≡ false) mode code (λ e. e) (any-length mode kind v)
+unfolding lengthMode
+judged-plain plain code kind v e = e
+judged-plain strict code kind v e =
+    either-mode (λ (m : Mode). wrongLength m kind v ≡ false → wrongLength plain kind v ≡ false) code (λ f. f) (strict-length kind v) e
 
 pub strict-judged : (code kind : ℕ) (v : List ℕ) → wrongLength strict kind v ≡ false → wrongLength (lengthMode strict code) kind v ≡ false
-strict-judged code kind v e = plain-or-asked (λ (m : Mode). wrongLength m kind v ≡ false) strict code (strict-length kind v e) e
+strict-judged code kind v e = either-mode (λ (m : Mode). wrongLength m kind v ≡ false) code (strict-length kind v e) e
 
 -- a flag whose length strict reading accepts has no bytes
 pub flag-empty : (v : List ℕ) → wrongLength strict 15 v ≡ false → v ≡ []

@@ -13,7 +13,7 @@ use Rattle.rfc.specs.Values.{valueOf, multiple, oneOrMore, Mode, plain, 
 use Rattle.rfc.proofs.Alike.{none, both, alike}
 use Rattle.rfc.proofs.Codes.{pad-raw, end-raw}
 use Rattle.rfc.proofs.Numbers.{a-code}
-use Rattle.rfc.proofs.Readings.{length-by, some-alike, plain-or-asked, of-others, other-clear, plain-clear, read-10}
+use Rattle.rfc.proofs.Readings.{length-by, some-alike, of-others, either-mode, other-clear, plain-clear, read-10}
 
 -- how a kind of lists or texts is judged: by one element or more in strict mode, by any in plain; and which kinds it is not
 record Judged (kind : ℕ) : Type 0 where
@@ -47,7 +47,7 @@ module _ (code : ℕ) (v : List ℕ) where
   unfolding read readChecks lengthMode
   read-alike same other =
       let kind : ℕ = kindOf code in
-      let length-alike = plain-or-asked (λ (m : Mode). wrongLength m kind v ≡ wrongLength plain kind v) strict code refl same in
+      let length-alike = either-mode (λ (m : Mode). wrongLength m kind v ≡ wrongLength plain kind v) code refl same in
       let clear : unclear strict kind v ≡ unclear plain kind v = other-clear strict kind v other ∙ sym (plain-clear kind v) in
       alike (given (valueOf kind v)) (both refl (both refl (both length-alike (both refl (both clear none)))))
 

@@ -74,7 +74,8 @@ pub data Mode : Type 0 where
   plain strict : Mode
 
 -- the rules by kind, the same ranges in both modes; raw bytes, text and codes have elements of one byte, so any length is a multiple. Strict
--- reading asks a single value for its exact length, and a list or text for an element, as RFC 2132 does (document 02, ticket 3)
+-- reading asks a single value for its exact length, and a list or text for an element: RFC 2132's own rule for its codes, and the form's for
+-- others (document 02, ticket 3)
 unfoldable pub rules : Mode → List (Row Rule)
 rules plain =
     row 1 1 exactly

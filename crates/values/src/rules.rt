@@ -90,6 +90,7 @@ fn breaks_rule(kind: u8, value: &[u8], strict: bool) -> bool
     if rule == AT_LEAST {
         return value.len() < size;
     }
+    // Two rules are left, of whole elements: none of them breaks one of the two.
     if value.len() == 0 {
         return rule == ONE_OR_MORE;
     }

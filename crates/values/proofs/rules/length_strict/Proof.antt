@@ -1,6 +1,5 @@
 -- `length_strict` meets its contract: the home agents, and every other code.
 -- Assumes nothing.
-use mathlib.Core.Path.{_≡_}
 use Rattle.rfc.proofs.Readings.{of-home-agents, of-others}
 use Rattle.values.proofs.rules.length_strict.Statement.{statement}
 use Rattle.values.proofs.rules.length_strict.Tie as tie
