@@ -11,6 +11,9 @@ use std::hint::black_box;
 /// The bytes of a room, and of the crate's vector.
 const ROOM: usize = 5_000;
 
+/// The bytes of a page of memory.
+const PAGE: usize = 4_096;
+
 /// A code and its value.
 type Options = Vec<(u8, Vec<u8>)>;
 
@@ -109,11 +112,33 @@ fn rows(options: &Options) -> (Vec<WriteRow>, Vec<u8>) {
     (options.iter().map(&mut row).collect(), values)
 }
 
+/// Options whose long values stand a quarter of a page or more from where they are written, by their places in a page.
+/// Where these places are close, the processor takes a load for one that waits for a store, and a copy takes up to three
+/// times as long: by the luck of an allocation, and for one side alone.
+fn apart_from(written: &[u8], options: &Options) -> Options {
+    let place = |bytes: &[u8]| bytes.as_ptr().addr() % PAGE;
+    let apart = |(_, value): &(u8, Vec<u8>)| {
+        let from = (PAGE + place(value) - place(written)) % PAGE;
+        value.len() < PAGE / 4 || (PAGE / 4..=3 * PAGE / 4).contains(&from)
+    };
+    let mut close = Vec::new();
+    loop {
+        let tried = options.clone();
+        if tried.iter().all(apart) {
+            return tried;
+        }
+        close.push((tried, black_box(vec![0_u8; 1_000])));
+    }
+}
+
 /// Options that a call each writes.
 fn call_each(name: &str, options: &Options) -> Case {
     let bytes = options.iter().map(|(_, value)| value.len() + 2).sum();
-    let ours = CallEach { options: options.clone(), room: vec![0; ROOM] };
-    Case::new(name, bytes, ours, Crate { options: options.clone(), buffer: Vec::with_capacity(ROOM) })
+    let (room, mut buffer) = (vec![0; ROOM], vec![0; ROOM]);
+    let ours = CallEach { options: apart_from(&room, options), room };
+    let options = apart_from(&buffer, options);
+    buffer.clear();
+    Case::new(name, bytes, ours, Crate { options, buffer })
 }
 
 /// The same by one call.
