@@ -30,6 +30,8 @@ MISFITS = (
     re.compile(r"this pattern needs a function \(or path\) type to bind"),
     # The same of a proof that is given as a function: what it takes is not there.
     re.compile(r"this λ has \d+ binders, but its type has room for"),
+    # The proof gives several facts in a record where the changed code needs something of another form.
+    re.compile(r"`record \{ … \}` is checked against .*\s+which is not a record type", re.DOTALL),
     # The answers to the needs are given in another order, or one is missing or too many.
     re.compile(r"expected type `tie\.Need"),
     # What is known is of another form, so that there is nothing to rewrite.

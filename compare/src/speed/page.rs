@@ -32,7 +32,8 @@ crate's, so below 1 the library is faster. Instructions are counted by another p
 const BUFFERS: &str = "\
 Memory: what is lent to the library (the join, the rows, the room) is lent again and again, so it is warm; so are the inputs. The
 crate's vector, into which it writes, is cleared and has its capacity already; where the crate joins parts or reads a list or a text it
-allocates, as it always does. Rows to be written and the crate's routes are made before.
+allocates, as it always does. Rows to be written and the crate's routes are made before. A long value and what it is written into stand a
+quarter of a page or more from each other, by their places in a page.
 
 Inputs: the message of twelve options has 325 bytes, 85 of them its area: 53 54 51 58 59 1 3 6 15 28 12 42 and End, with usual
 values. The option that is joined has parts of 255 bytes and a last one of 180; with four parts its message has 1,200 bytes. The
