@@ -148,9 +148,9 @@ pub fn read(code: u8, value: &[u8]) -> Result<Value<'_>, Refusal> {
 ///   be none.
 /// - A yes/no byte is 0 or 1 ([`Refusal::UnclearYesNo`]).
 ///
-/// It asks no more than that, and what it accepts it reads as [`read`] does. So it is not what the RFCs allow: it takes
-/// raw bytes of any length and a time-to-live of 0, which they do not, and it refuses two architectures in code 93, which
-/// RFC 4578 allows.
+/// It asks no more than that, and what it accepts it reads as [`read`] does. So it is no check of all that RFCs say: it
+/// takes a client identifier of no bytes and a time-to-live of 0, which RFC 2132 does not allow, and it refuses two
+/// architectures in code 93, which RFC 4578 allows.
 ///
 /// ```
 /// use sindovaleph::{Refusal, Value, codes, read, read_strict};

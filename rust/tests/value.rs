@@ -127,11 +127,11 @@ fn plain_and_strict_part() {
     assert_eq!((read(20, &[2]), read_strict(20, &[2])), (Ok(Value::YesNo(false)), Err(Refusal::UnclearYesNo)));
 }
 
-/// The codes whose lists and texts have an element at least in strict mode: by RFC 2132, by RFC 4280 and 4388 (89 and 92),
-/// and of 62, 100, 101 and 114 by document 02, ticket 3, alone. 68 is none of them.
+/// The codes whose lists and texts have an element at least in strict mode: by RFC 2132, by RFC 4280 and 4388 (89 and
+/// 92), and 62, 100, 101 and 114 by document 02, ticket 3, alone. 68 is none of them.
 const SOME_ELEMENT: [u8; 43] = [
-    3, 4, 5, 6, 7, 8, 9, 10, 11, 12, 14, 15, 17, 18, 21, 25, 33, 40, 41, 42, 44, 45, 47, 48, 49, 55, 56, 62, 64, 65, 69,
-    70, 71, 72, 73, 74, 75, 76, 89, 92, 100, 101, 114,
+    3, 4, 5, 6, 7, 8, 9, 10, 11, 12, 14, 15, 17, 18, 21, 25, 33, 40, 41, 42, 44, 45, 47, 48, 49, 55, 56, 62, 64, 65,
+    69, 70, 71, 72, 73, 74, 75, 76, 89, 92, 100, 101, 114,
 ];
 
 #[test]

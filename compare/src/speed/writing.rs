@@ -113,8 +113,8 @@ fn rows(options: &Options) -> (Vec<WriteRow>, Vec<u8>) {
 }
 
 /// Options whose long values stand a quarter of a page or more from where they are written, by their places in a page.
-/// Where these places are close, the processor takes a load for one that waits for a store, and a copy takes up to three
-/// times as long: by the luck of an allocation, and for one side alone.
+/// Where these places are about the same, a copy takes up to five times as long at some distances between the pages: by
+/// the luck of an allocation, and for one side alone.
 fn apart_from(written: &[u8], options: &Options) -> Options {
     let place = |bytes: &[u8]| bytes.as_ptr().addr() % PAGE;
     let apart = |(_, value): &(u8, Vec<u8>)| {

@@ -1,4 +1,4 @@
-// The rule for a value's length, by its kind: data for plain reading, and data for strict.
+// The rule for a value's length, by its kind: data for plain reading, and data for strict; and the one code that strict reading judges plainly.
 ghost use mathlib.Core.Path.{_≡_};
 ghost use Prim.Native.Nat.{_<_};
 ghost use Rattle.rfc.specs.Values.{ruleFor, wrongLength, lengthMode};
@@ -90,7 +90,7 @@ fn breaks_rule(kind: u8, value: &[u8], strict: bool) -> bool
     if rule == AT_LEAST {
         return value.len() < size;
     }
-    // Two rules are left, of whole elements: none of them breaks one of the two.
+    // Two rules are left, both about whole elements; to have none breaks the one that asks for some.
     if value.len() == 0 {
         return rule == ONE_OR_MORE;
     }
