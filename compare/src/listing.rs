@@ -21,7 +21,7 @@ fn list(text: &mut String, message: &[u8], theirs: &Message<'_>) {
     let (op, htype, hlen, xid) = (fields.op, fields.htype, fields.hlen, fields.xid);
     let _ = writeln!(text, "message {} op {op} htype {htype} hlen {hlen} xid {xid}", message.len());
     match theirs::chaddr(theirs) {
-        Some(bytes) => paper::number_list(text, "chaddr", bytes),
+        Some(bytes) => paper::listed_address(text, hlen, bytes),
         None => text.push_str("chaddr refused 3\n"),
     }
     match paper::area(message) {
@@ -61,6 +61,18 @@ mod tests {
     fn the_worked_example() {
         let lines = "message 244 op 2 htype 1 hlen 6 xid 42\nchaddr 2 0 0 0 0 1\noption 53 kind 13 parts 1 value 5\nstop end 4\n";
         assert_eq!(text(&example()), lines);
+    }
+
+    /// The example of ticket 4: an address of 17 bytes, the last of which is sname's.
+    #[test]
+    fn an_address_that_spills() {
+        let mut message = example();
+        message[44] = b'b';
+        message[2] = 17;
+        let line = "\nchaddr 2 0 0 0 0 1 0 0 0 0 0 0 0 0 0 0 98 spill\noption 53 ";
+        assert!(text(&message).contains(line));
+        message[2] = 16;
+        assert!(text(&message).contains("\nchaddr 2 0 0 0 0 1 0 0 0 0 0 0 0 0 0 0\noption 53 "));
     }
 
     #[test]

@@ -1,5 +1,6 @@
 //! Who sent a message: by the list beside its file, by an address, or by the message itself.
 
+use crate::paper::{CHADDR, CHADDR_END};
 use crate::stored::{Stored, is_framed};
 use std::fs;
 use std::net::Ipv4Addr;
@@ -58,9 +59,9 @@ fn by_address(message: &Stored<'_>) -> Option<String> {
 /// The op and the hardware address, or the first bytes.
 fn by_message(bytes: &[u8]) -> String {
     let numbers = |bytes: &[u8]| bytes.iter().map(|byte| format!(" {byte}")).collect::<String>();
-    if bytes.len() < 44 {
+    if bytes.len() < CHADDR_END {
         return format!("first bytes{}", numbers(&bytes[..bytes.len().min(FIRST_BYTES)]));
     }
-    let hlen = usize::from(bytes[2]).min(16);
-    format!("op {} chaddr{}", bytes[0], numbers(&bytes[28..28 + hlen]))
+    let end = CHADDR_END.min(CHADDR + usize::from(bytes[2]));
+    format!("op {} chaddr{}", bytes[0], numbers(&bytes[CHADDR..end]))
 }

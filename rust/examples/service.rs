@@ -59,7 +59,7 @@ fn read(bytes: &[u8]) -> Result<Option<Request>, Box<dyn Error>> {
         return Ok(None);
     }
     let mut request = Request { xid: message.xid(), ..Request::default() };
-    request.client = message.chaddr()?.to_vec();
+    request.client = message.chaddr()?.own().to_vec();
     request.broadcast = message.flags() & flags::BROADCAST != 0;
     let mut join = vec![0; bytes.len()];
     for opt in message.opts(&mut join) {

@@ -24,7 +24,7 @@ extern "C" {
 
 /* The version of the boundary. Its name carries the number, and each file that includes this header names it, where
    the compiler can be told so: a library of another version does not link. */
-#define SINDOVALEPH_BOUNDARY sindovaleph_boundary_2
+#define SINDOVALEPH_BOUNDARY sindovaleph_boundary_3
 
 /* The number of the version. */
 uint32_t SINDOVALEPH_BOUNDARY(void);
@@ -103,6 +103,8 @@ typedef struct {
     uint8_t hlen; /* chaddr is so many bytes from 28 on */
     uint8_t hops;
     uint8_t chaddr_refused; /* 3 where chaddr's bytes are not all there, else 0 */
+    uint8_t chaddr_own;     /* so many of them lie in its field, which has 16: print these; 0 where they are refused */
+    bool chaddr_spills;     /* hlen is above 16: the others are none of chaddr's; false where they are refused */
     bool wrong_magic;       /* if not, the area of options is all bytes from 240 on */
 } SindovalephFields;
 

@@ -40,6 +40,10 @@ pub struct Fields {
     pub hops: u8,
     /// 3 where chaddr's `hlen` bytes are not all there, else 0.
     pub chaddr_refused: u8,
+    /// How many of these bytes lie in the field chaddr, which has 16; 0 where they are refused.
+    pub chaddr_own: u8,
+    /// Whether `hlen` is above 16, so that the others are none of chaddr's; not where they are refused.
+    pub chaddr_spills: bool,
     /// Whether something else than the magic stands before the options.
     pub wrong_magic: bool,
 }
@@ -216,7 +220,7 @@ mod boundary {
     use super::*;
 
     unsafe extern "C" {
-        pub safe fn sindovaleph_boundary_2() -> u32;
+        pub safe fn sindovaleph_boundary_3() -> u32;
         pub fn sindovaleph_header(message: *const u8, message_len: usize) -> Fields;
         pub fn sindovaleph_xid(message: *const u8, message_len: usize) -> Field;
         pub safe fn sindovaleph_kind_of(code: u8) -> u8;
@@ -368,7 +372,7 @@ use boundary::*;
 // The version of the boundary that is declared here: every program with this crate in it names it, so that it does not
 // link with a library of another version.
 #[used]
-static BOUNDARY: extern "C" fn() -> u32 = sindovaleph_boundary_2;
+static BOUNDARY: extern "C" fn() -> u32 = sindovaleph_boundary_3;
 
 // SAFETY, of every call below: the proved side takes any numbers and any bytes, so a call needs valid slices and
 // nothing else. References are that, with their own lengths, for as long as the call lasts; the proved side keeps none

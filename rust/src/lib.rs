@@ -19,7 +19,7 @@
 //!
 //! let message = Message::new(&bytes)?;
 //! assert_eq!((message.opcode(), message.hlen()), (ops::BOOT_REQUEST, 6));
-//! assert_eq!(message.chaddr()?.len(), 6);
+//! assert_eq!(message.chaddr()?.own().len(), 6);
 //!
 //! let mut join = [0; 4096];
 //! let mut opts = message.opts(&mut join);
@@ -177,7 +177,7 @@
 //! | `opcode() == Opcode::BootRequest` | `opcode() == ops::BOOT_REQUEST`, a number |
 //! | `htype()`, a type of its own | a number: 1 is Ethernet |
 //! | `flags().broadcast()` | `flags() & flags::BROADCAST != 0` |
-//! | `chaddr()`, which panics where hlen is too large | `chaddr()?` |
+//! | `chaddr()`, which panics where hlen is too large | `chaddr()?.bytes()`; [`own()`](Chaddr::own) leaves out what is none of it |
 //! | `for opt in message.opts() {` | `for opt in message.opts(&mut join) {` and `let opt = opt?;` |
 //! | `DhcpOptionIterator::new(area)` | [`Options::new`]`(area, &mut join)` |
 //! | `DhcpOption`: `code()`, an `OptionCode` | [`Opt`]: `code()`, a number, with names in [`codes`] |
@@ -253,6 +253,7 @@ macro_rules! numbered {
 
 #[allow(unsafe_code)]
 pub mod calls;
+pub mod chaddr;
 pub mod entries;
 pub mod listing;
 pub mod message;
@@ -264,6 +265,7 @@ mod shown;
 pub mod value;
 pub mod writer;
 
+pub use chaddr::Chaddr;
 pub use entries::{Entries, EntryRow, Overload};
 pub use listing::listing;
 pub use message::{Message, xid};

@@ -1,11 +1,12 @@
 //! The message: its fixed header, and where its options stand.
 
 use crate::calls::{self, Fields};
+use crate::chaddr::Chaddr;
 use crate::entries::{self, Entries, EntryRow, Overload};
 use crate::options::{Opt, Options};
 use crate::refusal::{OptRefused, Refusal, checked};
 use crate::rows::{self, Listed, ReadRow, Row};
-use crate::shown::{Bytes, Hardware, Text};
+use crate::shown::{Bytes, Text};
 use core::fmt;
 use core::net::Ipv4Addr;
 
@@ -116,12 +117,13 @@ impl<'a> Message<'a> {
         Ipv4Addr::from_bits(self.fields.giaddr)
     }
 
-    /// The hardware address: `hlen` bytes. They may be more than chaddr's own 16 and run into sname; where they are
-    /// more than the message has, that is [`Refusal::ChaddrPastEnd`].
+    /// The hardware address: `hlen` bytes, and how many of them lie in the field chaddr, which has 16. Where they are more
+    /// than the message has, that is [`Refusal::ChaddrPastEnd`].
     #[inline]
-    pub fn chaddr(&self) -> Result<&'a [u8], Refusal> {
+    pub fn chaddr(&self) -> Result<Chaddr<'a>, Refusal> {
         checked(self.fields.chaddr_refused)?;
-        Ok(self.shown(CHADDR, usize::from(self.fields.hlen)))
+        let bytes = self.shown(CHADDR, usize::from(self.fields.hlen));
+        Ok(Chaddr::new(bytes, self.fields.chaddr_own, self.fields.chaddr_spills))
     }
 
     /// The server's name, up to its first zero. Where [`Message::overload`] says that sname holds options, they are what
@@ -256,7 +258,7 @@ impl fmt::Debug for Message<'_> {
         shown.field("secs", &self.secs()).field("flags", &format_args!("{:#06x}", self.flags()));
         shown.field("ciaddr", &self.ciaddr()).field("yiaddr", &self.yiaddr());
         shown.field("siaddr", &self.siaddr()).field("giaddr", &self.giaddr());
-        shown.field("chaddr", &self.chaddr().map(Hardware));
+        shown.field("chaddr", &self.chaddr());
         shown.field("sname", &Text(self.sname())).field("fname", &Text(self.fname()));
         shown.field("has_magic", &self.has_magic()).field("area", &Bytes(self.area().len())).finish()
     }

@@ -1,11 +1,12 @@
-//! What the compiler tells a user: a `match` needs a `_` where later versions may add cases, and an answer that matters is
-//! not dropped without a warning. Both are held when this file is compiled: a `_` that no case needs is an error here, and
-//! so is a warning that does not come.
+//! What the compiler tells a user: a `match` needs a `_` where later versions may add cases, an address is no slice of bytes,
+//! and an answer that matters is not dropped without a warning. All are held when this file is compiled: a `_` that no case
+//! needs is an error here, and so are an address that becomes a slice and a warning that does not come.
 #![deny(unreachable_patterns, unfulfilled_lint_expectations)]
 
 use sindovaleph::{
-    Ending, Kind, Listed, Message, Options, Overload, Refusal, Row, Stop, Value, Writer, codes, list, read,
+    Chaddr, Ending, Kind, Listed, Message, Options, Overload, Refusal, Row, Stop, Value, Writer, codes, list, read,
 };
+use std::ops::Deref;
 
 fn is_known(refusal: Refusal) -> bool {
     use Refusal::*;
@@ -69,6 +70,20 @@ fn a_match_needs_a_case_for_what_may_come() {
     assert_eq!(Message::new(&[0; 240]).unwrap().overload().map(number_of), Ok(0));
 }
 
+/// What has two such functions, it cannot be told which is meant: that is a type that becomes another by itself.
+trait IsNoPointer<Which> {
+    fn seen() {}
+}
+
+impl<T: ?Sized> IsNoPointer<()> for T {}
+
+impl<T: ?Sized + Deref> IsNoPointer<u8> for T {}
+
+#[test]
+fn an_address_becomes_no_slice_by_itself() {
+    <Chaddr<'_> as IsNoPointer<_>>::seen();
+}
+
 /// What is dropped here is warned about.
 #[expect(unused_must_use)]
 fn drops_a_listing(area: &[u8], rows: &mut [Row]) -> Result<(), Refusal> {
@@ -102,6 +117,16 @@ fn drops_the_area(message: &Message<'_>) {
 }
 
 #[expect(unused_must_use)]
+fn drops_what_lies_in_the_field(chaddr: &Chaddr<'_>) {
+    chaddr.own();
+}
+
+#[expect(unused_must_use)]
+fn drops_whether_it_spills(chaddr: &Chaddr<'_>) {
+    chaddr.spills();
+}
+
+#[expect(unused_must_use)]
 fn drops_the_entries(message: &Message<'_>) {
     message.entries(&mut []);
 }
@@ -132,6 +157,8 @@ fn an_answer_that_matters_is_not_dropped_unseen() {
     drops_what_is_refused(&mut Writer::new(&mut [0; 9]));
     let message = Message::new(&[0; 240]).unwrap();
     drops_the_area(&message);
+    drops_what_lies_in_the_field(&message.chaddr().unwrap());
+    drops_whether_it_spills(&message.chaddr().unwrap());
     drops_the_entries(&message);
     drops_what_is_found(&message);
     drops_why_there_are_no_more(&message);

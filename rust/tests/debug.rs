@@ -20,6 +20,9 @@ fn a_message_is_shown_by_its_fields() {
          ciaddr: 0.0.0.0, yiaddr: 192.0.2.17, siaddr: 0.0.0.0, giaddr: 0.0.0.0, chaddr: Ok(02:00:00:00:00:01), \
          sname: \"boot\\xff\", fname: \"\", has_magic: true, area: 4 bytes }"
     );
+    bytes[2] = 18;
+    let spilled = "chaddr: Ok(02:00:00:00:00:01:00:00:00:00:00:00:00:00:00:00 and 2 spilled)";
+    assert!(format!("{:?}", Message::new(&bytes).unwrap()).contains(spilled));
     bytes[2] = 255;
     assert!(format!("{:?}", Message::new(&bytes).unwrap()).contains("chaddr: Err(ChaddrPastEnd)"));
 }

@@ -257,7 +257,7 @@ fn the_header_has_the_same_functions() {
 }
 
 /// The version of the boundary, by its name, and the fingerprint of what is declared under it.
-const VERSION: (&str, u64) = ("sindovaleph_boundary_2", 0x9B18_1EAB_95EA_6CEB);
+const VERSION: (&str, u64) = ("sindovaleph_boundary_3", 0x9B18_1EAB_95EA_6CEB);
 
 const VERSION_BEGINS: &str = "sindovaleph_boundary_";
 
@@ -308,7 +308,7 @@ fn rows_have_the_names_and_the_order_of_what_they_hold() {
 #[test]
 fn sizes_and_offsets() {
     let expected: [(&str, usize, usize, &[usize]); 13] = [
-        ("Fields", 36, 4, &[0, 4, 8, 12, 16, 20, 22, 24, 26, 28, 29, 30, 31, 32, 33, 34]),
+        ("Fields", 40, 4, &[0, 4, 8, 12, 16, 20, 22, 24, 26, 28, 29, 30, 31, 32, 33, 34, 35, 36]),
         ("Field", 16, 8, &[0, 8]),
         ("Step", 32, 8, &[0, 1, 2, 8, 16, 24]),
         ("Value", 16, 8, &[0, 1, 4, 8]),
@@ -365,16 +365,21 @@ fn the_header_crosses() {
         hlen: 0x83,
         hops: 0x84,
         chaddr_refused: 0,
+        chaddr_own: 16,
+        chaddr_spills: true,
         wrong_magic: false,
     };
     assert_eq!(header(&bytes), fields);
     assert_eq!(calls::xid(&bytes), Field { refused: 0, number: 0x8586_8788 });
+    bytes[2] = 15;
+    assert_eq!(header(&bytes), Fields { hlen: 15, chaddr_own: 15, chaddr_spills: false, ..fields });
     bytes[2] = 255;
     bytes[239] = 0;
-    let cut = Fields { hlen: 255, chaddr_refused: 3, wrong_magic: true, ..fields };
+    let cut = Fields { hlen: 255, chaddr_refused: 3, chaddr_own: 0, chaddr_spills: false, wrong_magic: true, ..fields };
     assert_eq!(header(&bytes[..282]), cut);
     let refused = header(&bytes[..239]);
     assert_eq!((refused.refused, refused.op, refused.xid, refused.wrong_magic), (1, 0, 0, false));
+    assert_eq!((refused.chaddr_refused, refused.chaddr_own, refused.chaddr_spills), (0, 0, false));
     assert_eq!(calls::xid(&bytes[..239]), Field { refused: 1, number: 0 });
 }
 

@@ -16,7 +16,7 @@ fn serve(bytes: &[u8]) -> Result<Served, Refusal> {
             kind = Some(found);
         }
     }
-    Ok((message.xid(), message.chaddr().map(<[u8]>::to_vec), kind))
+    Ok((message.xid(), message.chaddr().map(|chaddr| chaddr.own().to_vec()), kind))
 }
 
 fn incident() -> Vec<u8> {
@@ -55,6 +55,7 @@ fn the_next_message_is_served() {
 fn with_283_bytes_it_is_shown() {
     let mut bytes = incident();
     bytes.resize(283, 9);
-    assert_eq!(Message::new(&bytes).unwrap().chaddr().map(<[u8]>::len), Ok(255));
+    let chaddr = Message::new(&bytes).unwrap().chaddr().unwrap();
+    assert_eq!((chaddr.bytes(), chaddr.own(), chaddr.spills()), (&bytes[28..], &bytes[28..44], true));
     assert_eq!(Message::new(&bytes[..282]).unwrap().chaddr(), Err(Refusal::ChaddrPastEnd));
 }

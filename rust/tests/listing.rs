@@ -5,6 +5,7 @@ use sindovaleph::{Message, Refusal, listing};
 
 const ACK: &[u8] = include_bytes!("../../samples/ack");
 const INCIDENT: &[u8] = include_bytes!("../../samples/incident");
+const SPILL: &[u8] = include_bytes!("../../samples/spill");
 
 #[test]
 fn a_message_is_listed() {
@@ -15,6 +16,23 @@ fn a_message_is_listed() {
     let len = text.len();
     assert!(room[len..].iter().all(|&byte| byte == 0xEE));
     assert!(listing(INCIDENT, &mut room).unwrap().contains("\nchaddr refused 3\n"));
+}
+
+#[test]
+fn an_address_that_spills_is_listed_with_a_word() {
+    let mut room = [0; 4096];
+    let lines = "message 244 op 2 htype 1 hlen 17 xid 42\n\
+                 chaddr 2 0 0 0 0 1 0 0 0 0 0 0 0 0 0 0 98 spill\n\
+                 option 53 kind 13 parts 1 value 5\n\
+                 stop end 4\n";
+    assert_eq!(listing(SPILL, &mut room), Ok(lines));
+    let page = include_str!("../../README.md");
+    assert!(lines.lines().nth(1).is_some_and(|line| page.contains(&format!("\n{line}\n"))));
+    let mut bytes = SPILL.to_vec();
+    for (hlen, second) in [(16, "chaddr 2 0 0 0 0 1 0 0 0 0 0 0 0 0 0 0"), (255, "chaddr refused 3")] {
+        bytes[2] = hlen;
+        assert_eq!(listing(&bytes, &mut room).unwrap().lines().nth(1), Some(second));
+    }
 }
 
 #[test]

@@ -25,7 +25,7 @@ fn every_field_is_where_rfc_2131_has_it() {
     assert_eq!(message.yiaddr(), Ipv4Addr::new(17, 18, 19, 20));
     assert_eq!(message.siaddr(), Ipv4Addr::new(21, 22, 23, 24));
     assert_eq!(message.giaddr(), Ipv4Addr::new(25, 26, 27, 28));
-    assert_eq!(message.chaddr(), Ok(&[29, 30, 31][..]));
+    assert_eq!(message.chaddr().map(|chaddr| chaddr.bytes()), Ok(&[29, 30, 31][..]));
     assert_eq!(message.bytes(), bytes);
     assert_eq!(xid(&bytes), Ok(0x0506_0708));
 }
@@ -71,23 +71,54 @@ fn lengths_that_are_refused() {
     assert_eq!((xid(&bytes), xid(&bytes[..239])), (Err(Refusal::TooLong), Err(Refusal::MessageTooShort)));
 }
 
+/// A message of so many bytes that count up, of which the address has `hlen`.
+fn counted_address(len: usize, hlen: u8) -> Vec<u8> {
+    let mut bytes: Vec<u8> = (0..len).map(|at| at as u8).collect();
+    bytes[2] = hlen;
+    bytes
+}
+
 #[test]
-fn chaddr_has_hlen_bytes_or_is_refused() {
-    let mut bytes = message(240, &[]);
-    for (hlen, shown) in [(0, Some(0)), (16, Some(16)), (17, Some(17)), (212, Some(212)), (213, None), (255, None)] {
-        bytes[2] = hlen;
-        let found = Message::new(&bytes).unwrap().chaddr();
-        assert_eq!(found.map(<[u8]>::len), shown.ok_or(Refusal::ChaddrPastEnd), "hlen {hlen}");
+fn chaddr_tells_its_own_bytes_from_those_behind_its_field() {
+    let cases = [(240, 0), (240, 6), (240, 15), (240, 16), (240, 17), (240, 18), (240, 212), (283, 255), (300, 255)];
+    for (len, hlen) in cases {
+        let bytes = counted_address(len, hlen);
+        let chaddr = Message::new(&bytes).unwrap().chaddr().unwrap();
+        let end = 28 + usize::from(hlen);
+        assert_eq!(chaddr.bytes(), &bytes[28..end], "hlen {hlen}");
+        assert_eq!(chaddr.own(), &bytes[28..end.min(44)], "hlen {hlen}");
+        assert_eq!(chaddr.spilled(), &bytes[end.min(44)..end], "hlen {hlen}");
+        assert_eq!(chaddr.spills(), hlen > 16, "hlen {hlen}");
     }
+}
+
+#[test]
+fn chaddr_past_the_end_is_refused() {
+    for (len, hlen) in [(240, 213), (240, 255), (244, 255), (282, 255)] {
+        let bytes = counted_address(len, hlen);
+        assert_eq!(Message::new(&bytes).unwrap().chaddr(), Err(Refusal::ChaddrPastEnd), "{len} bytes, hlen {hlen}");
+    }
+}
+
+#[test]
+fn text_of_sname_is_no_part_of_an_address() {
+    let mut bytes = message(240, &[]);
+    bytes[44..48].copy_from_slice(b"boot");
+    bytes[2] = 20;
+    let chaddr = Message::new(&bytes).unwrap().chaddr().unwrap();
+    assert_eq!(chaddr.to_string(), "02:00:00:00:00:01:00:00:00:00:00:00:00:00:00:00");
+    assert_eq!((chaddr.spilled(), chaddr.bytes().ends_with(b"boot")), (&b"boot"[..], true));
+    bytes[2] = 6;
+    assert_eq!(Message::new(&bytes).unwrap().chaddr().unwrap().to_string(), "02:00:00:00:00:01");
 }
 
 #[test]
 fn what_is_shown_outlives_the_message() {
     let bytes = counted();
-    let (sname, area) = {
+    let (sname, area, own) = {
         let message = Message::new(&bytes).unwrap();
         let copy = message;
-        (copy.sname(), message.area())
+        (copy.sname(), message.area(), message.chaddr().unwrap().own())
     };
-    assert!(sname.is_empty() && area.len() == 60);
+    assert!(sname.is_empty() && area.len() == 60 && own == [29, 30, 31]);
 }

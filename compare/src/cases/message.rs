@@ -25,7 +25,7 @@ impl Bench {
     /// What the crate shows of a header that document 01 does not refuse.
     fn header_by_crate(&mut self, message: &[u8], said: &Fields, theirs: &Message<'_>) {
         let call = format_args!("header of message {}", Bytes(message));
-        let sayable = Fields { chaddr_refused: 0, wrong_magic: false, ..*said };
+        let sayable = Fields { chaddr_refused: 0, chaddr_own: 0, chaddr_spills: false, wrong_magic: false, ..*said };
         self.findings.same_crate(call, &theirs::fields(theirs), &sayable);
         let names = [theirs.sname(), theirs.fname()].map(|name| place_of(message, name));
         self.findings.same_crate(call, &names, &[Some(SNAME), Some(FILE)]);

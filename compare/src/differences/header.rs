@@ -17,7 +17,7 @@ pub const ROWS: &[Row] = &[
         name: "an hlen above 16",
         input: Input::Message { len: 240, set: &[(2, &[17])], part: Part::Chaddr },
         theirs: always("0 0 .. of 17 bytes"),
-        ours: "0 0 .. of 17 bytes",
+        ours: "0 0 .. of 17 bytes, 16 in the field, spills",
         rfc: "2131, 2: 16 bytes",
         fault: "bytes of sname are shown as address",
     },

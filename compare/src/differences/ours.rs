@@ -2,7 +2,7 @@
 
 use super::input::{ENOUGH, Input, Part, count, message, padded, shown};
 use crate::paper::{AREA, CHADDR, SNAME};
-use sindovaleph::calls::{self, Route, Step, Value, Written};
+use sindovaleph::calls::{self, Fields, Route, Step, Value, Written};
 
 /// The port's word where it has no such function.
 const NOT_PORTED: &str = "not ported";
@@ -80,11 +80,17 @@ fn part_of(bytes: &[u8], part: &Part) -> String {
         _ if fields.refused != 0 => format!("refused {}", fields.refused),
         Part::Op => fields.op.to_string(),
         Part::Chaddr if fields.chaddr_refused != 0 => format!("refused {}", fields.chaddr_refused),
-        Part::Chaddr => shown(&bytes[CHADDR..CHADDR + usize::from(fields.hlen)]),
+        Part::Chaddr => address(bytes, &fields),
         Part::Sname => shown(&bytes[SNAME..SNAME + usize::from(fields.sname)]),
         Part::Options if fields.wrong_magic => "wrong magic".into(),
         Part::Options => options(&bytes[AREA..]),
     }
+}
+
+/// The address that is shown, and of one that spills how many bytes lie in the field.
+fn address(bytes: &[u8], fields: &Fields) -> String {
+    let all = shown(&bytes[CHADDR..CHADDR + usize::from(fields.hlen)]);
+    if fields.chaddr_spills { format!("{all}, {} in the field, spills", fields.chaddr_own) } else { all }
 }
 
 /// All options up to the first stop.

@@ -7,7 +7,8 @@ const MAGIC: [u8; 4] = [99, 130, 83, 99];
 
 /// Where the fields stand that are no numbers; the magic stands behind file, and then the area of options.
 pub const CHADDR: usize = 28;
-pub const SNAME: usize = 44;
+pub const CHADDR_END: usize = 44;
+pub const SNAME: usize = CHADDR_END;
 pub const FILE: usize = 108;
 pub const FILE_END: usize = 236;
 pub const AREA: usize = 240;
@@ -33,6 +34,8 @@ fn refused_header(refused: u8) -> Fields {
         siaddr: 0,
         giaddr: 0,
         chaddr_refused: 0,
+        chaddr_own: 0,
+        chaddr_spills: false,
         sname: 0,
         file: 0,
         wrong_magic: false,
@@ -46,6 +49,7 @@ pub fn header(message: &[u8]) -> Fields {
         return refused_header(refused);
     }
     let number = |start: usize, end: usize| big_endian(&message[start..=end]);
+    let address = address(message);
     Fields {
         refused,
         op: message[0],
@@ -59,11 +63,31 @@ pub fn header(message: &[u8]) -> Fields {
         yiaddr: number(16, 19),
         siaddr: number(20, 23),
         giaddr: number(24, 27),
-        chaddr_refused: first_refusal(&[(CHADDR + usize::from(message[2]) > message.len(), 3)]),
+        chaddr_refused: address.refused,
+        chaddr_own: address.own,
+        chaddr_spills: address.spills,
         sname: up_to_zero(&message[SNAME..FILE]),
         file: up_to_zero(&message[FILE..FILE_END]),
         wrong_magic: message[FILE_END..AREA] != MAGIC,
     }
+}
+
+/// What is said of the address: its refusal, and where it has none, how many of its bytes lie in the field proper and whether hlen is above
+/// 16 (document 02, ticket 4).
+struct Address {
+    refused: u8,
+    own: u8,
+    spills: bool,
+}
+
+fn address(message: &[u8]) -> Address {
+    let end = CHADDR + usize::from(message[2]);
+    let refused = first_refusal(&[(end > message.len(), 3)]);
+    if refused > 0 {
+        return Address { refused, own: 0, spills: false };
+    }
+    let own = (CHADDR..end).filter(|place| (CHADDR..CHADDR_END).contains(place)).count();
+    Address { refused, own: own as u8, spills: message[2] > 16 }
 }
 
 /// How many bytes of a field stand before its first zero byte: all where it has none.

@@ -19,18 +19,24 @@ pub fn no_listing(message: &[u8]) -> Option<&'static str> {
 }
 
 /// Bytes behind a word, each behind a space.
-pub fn number_list(text: &mut String, word: &str, bytes: &[u8]) {
+fn spaced(text: &mut String, word: &str, bytes: &[u8]) {
     text.push_str(word);
     for byte in bytes {
         let _ = write!(text, " {byte}");
     }
-    text.push('\n');
+}
+
+/// The line of an address that is shown: its bytes, and ` spill` where hlen is above 16 (document 02, ticket 4).
+pub fn listed_address(text: &mut String, hlen: u8, bytes: &[u8]) {
+    spaced(text, "chaddr", bytes);
+    text.push_str(if hlen > 16 { " spill\n" } else { "\n" });
 }
 
 /// The line of an option.
 pub fn listed_option(text: &mut String, code: u8, parts: usize, value: &[u8]) {
     let _ = write!(text, "option {code} kind {} parts {parts} ", kind_of(code));
-    number_list(text, "value", value);
+    spaced(text, "value", value);
+    text.push('\n');
 }
 
 /// The line of a stop.

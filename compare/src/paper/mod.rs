@@ -1,4 +1,4 @@
-//! The rules of document 01, and those of ticket 1 of document 02, written plainly: what each call has to answer, and what it leaves in
+//! The rules of document 01, and those of tickets 1, 3 and 4 of document 02, written plainly: what each call has to answer, and what it leaves in
 //! lent memory. Nothing here calls the library or the crate; only the shapes of the answers are the boundary's.
 
 mod aggregate;
@@ -12,9 +12,9 @@ mod walk;
 mod writing;
 
 pub use aggregate::{entries, entry, find_code, overload};
-pub use header::{AREA, CHADDR, FILE, FILE_END, SNAME, area, header, xid};
+pub use header::{AREA, CHADDR, CHADDR_END, FILE, FILE_END, SNAME, area, header, xid};
 pub use kinds::{element_size, kind_of};
-pub use listing::{listed_option, listed_stop, no_listing, number_list};
+pub use listing::{listed_address, listed_option, listed_stop, no_listing};
 pub use rows::{list, read_list, write_list};
 pub use text::is_utf8;
 pub use values::{element, read};

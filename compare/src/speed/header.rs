@@ -49,6 +49,22 @@ impl Side for Accessors {
     }
 }
 
+/// The same by the accessors of the safe crate; of the address the bytes of its own field.
+struct SafeAccessors(Vec<u8>);
+
+impl Side for SafeAccessors {
+    fn run(&mut self, sink: &mut impl Sink) {
+        let Ok(message) = sindovaleph::Message::new(black_box(&self.0)) else { return };
+        [message.opcode(), message.htype(), message.hlen(), message.hops()].into_iter().for_each(|byte| sink.number(byte));
+        sink.number(message.xid());
+        [message.secs(), message.flags()].into_iter().for_each(|number| sink.number(number));
+        let addresses = [message.ciaddr(), message.yiaddr(), message.siaddr(), message.giaddr()];
+        addresses.into_iter().for_each(|address| sink.number(address.to_bits()));
+        sink.number(message.chaddr().map_or(0, |chaddr| chaddr.own().len()) as u64);
+        [message.sname(), message.fname()].into_iter().for_each(|name| sink.number(name.len() as u64));
+    }
+}
+
 struct OneField(Vec<u8>);
 
 impl Side for OneField {
@@ -74,8 +90,10 @@ impl Side for OneAccessor {
 pub fn cases() -> Vec<Case> {
     let message = usual_message();
     let all = Case::new("header, all fields", message.len(), OneCall(message.clone()), Accessors(message.clone()));
+    let safe = SafeAccessors(message.clone());
+    let safe = Case::new("header, the safe crate", message.len(), safe, Accessors(message.clone()));
     let one = Case::new("header, xid", message.len(), OneField(message.clone()), OneAccessor(message));
-    vec![all.aims_at(0.80), one.aims_at(1.2)]
+    vec![all.aims_at(0.80), safe, one.aims_at(1.2)]
 }
 
 /// The kinds as a table of Rust's.

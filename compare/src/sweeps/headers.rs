@@ -15,8 +15,9 @@ fn every_length(bench: &mut Bench) {
     }
 }
 
+/// Every hlen with every length from two bytes too short to well behind the longest address.
 fn every_hlen(bench: &mut Bench) {
-    for len in [239, 240, 241, 244, 267, 282, 283, 284, 300] {
+    for len in 238..=300 {
         for hlen in 0..=255 {
             let mut message = made::header();
             message.resize(len, 0);

@@ -4,7 +4,7 @@ use super::caught;
 use dhcproto::v4::borrowed::Message;
 use sindovaleph::calls::Fields;
 
-/// All fields of the header. The crate has no word for an address past the end, nor for another magic.
+/// All fields of the header. The crate has no word for an address past the end, nor for one that spills, nor for another magic.
 pub fn fields(message: &Message<'_>) -> Fields {
     Fields {
         refused: 0,
@@ -20,6 +20,8 @@ pub fn fields(message: &Message<'_>) -> Fields {
         siaddr: message.siaddr().into(),
         giaddr: message.giaddr().into(),
         chaddr_refused: 0,
+        chaddr_own: 0,
+        chaddr_spills: false,
         sname: message.sname().len() as u16,
         file: message.fname().len() as u16,
         wrong_magic: false,

@@ -18,7 +18,7 @@ use Rattle.sindovaleph_rows.specs.Writing.{WritesList, writtenRows}
 use Rattle.sindovaleph_rows.specs.Listing.{Last, Listing, Lists, atStop, found, full, inFront, lastNumber, list, listIn, listedOf, readUnjoined, rowOf, rowsAfter, stepRow, typed, valueRow, width}
 use Rattle.sindovaleph_entries.specs.Rows.{ListsEntries, entriesAfter, entriesOf, entryRow, entryRows}
 use Rattle.pen.specs.Texts.{decimal, named, spaced}
-use Rattle.lines.specs.Listing.{addressText, areaLines, chaddrLine, linesIn, listing, messageLine, onward, optionLine, refusedLine, stopLine, stopWord}
+use Rattle.lines.specs.Listing.{addressText, areaLines, chaddrLine, linesIn, listing, messageLine, onward, optionLine, refusedLine, spillText, stopLine, stopWord}
 use Rattle.lines.specs.Words as Words
 use Rattle.joined_lines.specs.JoinedWords as JoinedWords
 use Rattle.joined_lines.specs.Joined.{codesLine, entriesIn, fieldsLine, fieldsLines, inTurn, joinedLines, joinedListing}
@@ -47,6 +47,19 @@ line1 =
 -- chaddr 2 0 0 0 0 1
 abbrev pub line2 : List ℕ
 line2 = 99 ∷ 104 ∷ 97 ∷ 100 ∷ 100 ∷ 114 ∷ 32 ∷ 50 ∷ 32 ∷ 48 ∷ 32 ∷ 48 ∷ 32 ∷ 48 ∷ 32 ∷ 48 ∷ 32 ∷ 49 ∷ 10 ∷ []
+
+-- the same message with hlen 17 and "b" in sname
+abbrev pub spilled : List ℕ
+spilled =
+    (2 ∷ 1 ∷ 17 ∷ 0 ∷ 0 ∷ 0 ∷ 0 ∷ 42 ∷ [])
+    ++ replicate 20 0 ++ (2 ∷ 0 ∷ 0 ∷ 0 ∷ 0 ∷ 1 ∷ []) ++ replicate 10 0 ++ (98 ∷ []) ++ replicate 191 0
+    ++ magic ++ (53 ∷ 1 ∷ 5 ∷ 255 ∷ [])
+
+-- chaddr 2 0 0 0 0 1 0 0 0 0 0 0 0 0 0 0 98 spill
+abbrev pub spilled2 : List ℕ
+spilled2 =
+    99 ∷ 104 ∷ 97 ∷ 100 ∷ 100 ∷ 114 ∷ 32 ∷ 50 ∷ 32 ∷ 48 ∷ 32 ∷ 48 ∷ 32 ∷ 48 ∷ 32 ∷ 48 ∷ 32 ∷ 49 ∷ 32 ∷ 48 ∷ 32 ∷ 48 ∷ 32 ∷ 48 ∷ 32 ∷ 48
+    ∷ 32 ∷ 48 ∷ 32 ∷ 48 ∷ 32 ∷ 48 ∷ 32 ∷ 48 ∷ 32 ∷ 48 ∷ 32 ∷ 48 ∷ 32 ∷ 57 ∷ 56 ∷ 32 ∷ 115 ∷ 112 ∷ 105 ∷ 108 ∷ 108 ∷ 10 ∷ []
 
 -- option 53 kind 13 parts 1 value 5
 abbrev pub line3 : List ℕ
@@ -142,7 +155,10 @@ OfListing =
     × (messageLine reply ≡ line1)
     × (refusedLine 3 ≡ Words.refused ++ 51 ∷ 10 ∷ [])
     × (addressText reply (refused 3) ≡ 32 ∷ refusedLine 3)
+    × (spillText true ≡ Words.spill ++ 10 ∷ [])
+    × (spillText false ≡ 10 ∷ [])
     × (chaddrLine reply ≡ line2)
+    × (chaddrLine spilled ≡ spilled2)
     × (optionLine 53 (5 ∷ []) 1 ≡ line3)
     × (stopWord end ≡ Words.stopEnd)
     × (stopLine end 4 ≡ line4)

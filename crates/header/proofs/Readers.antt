@@ -1,6 +1,6 @@
 -- What the proofs of the header's readers share: a message is refused or read, and what each field of the one and of the other says.
 -- Assumes nothing.
-use mathlib.Core.Path.{_≡_, refl, sym, ap}
+use mathlib.Core.Path.{_≡_, refl, sym, ap, _∙_}
 use Prim.Native.Nat.{ℕ, _+_, _≤_, _<_}
 use native.Mathlib.Omega.{arith}
 use mathlib.Core.Bool.{Bool, true, false, not}
@@ -53,11 +53,14 @@ module _ (message : List ℕ) (w : Whole message) where
   number-is start size h = number-front size message start leastMessage h (w .least)
 
   -- chaddr's bytes are not all there, or they are
-  pub chaddr-past : length message < 28 + getD message 2 0 → rfc.chaddr message ≡ refused 3
-  chaddr-past h = laws.chaddr-cut message clear _ (byte-at message 2 (omega (arith, w .least))) h
+  hlen-is : getD message 2 0 ≡ rfc.hlenOf message
+  hlen-is = byte-at message 2 (omega (arith, w .least)) ∙ sym (laws.hlen-read message)
 
-  pub chaddr-there : 28 + getD message 2 0 ≤ length message → rfc.chaddr message ≡ given (part 28 (getD message 2 0))
-  chaddr-there h = laws.chaddr-given message clear _ (byte-at message 2 (omega (arith, w .least))) h
+  pub chaddr-past : length message < 28 + getD message 2 0 → rfc.chaddr message ≡ refused 3
+  chaddr-past h = laws.chaddr-cut message clear _ hlen-is h
+
+  pub chaddr-there : 28 + getD message 2 0 ≤ length message → rfc.chaddr message ≡ given (rfc.address (getD message 2 0))
+  chaddr-there h = laws.chaddr-given message clear _ hlen-is h
 
   pub magic-told : not (rfc.magicRight message) ≡ magicIn (rfc.area message)
   magic-told = go (rfc.magicRight message) refl

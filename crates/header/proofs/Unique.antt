@@ -3,11 +3,13 @@
 use mathlib.Core.Path.{_≡_, refl, sym, _∙_}
 use Rattle.facts.proofs.Unique.{Unique}
 use Rattle.rfc.specs.Header as rfc
-use Rattle.header.specs.Header.{says, saysPart, saysArea}
+use Rattle.header.specs.Header.{says, saysPart, saysAddress, saysArea}
 use Rattle.header.specs.declared.Number.{Number}
 use Rattle.header.specs.declared.Number.the-variants as numbers
 use Rattle.header.specs.declared.Part.{Part}
 use Rattle.header.specs.declared.Part.the-variants as parts
+use Rattle.header.specs.declared.Chaddr.{Chaddr}
+use Rattle.header.specs.declared.Chaddr.the-variants as chaddrs
 use Rattle.header.specs.declared.Area.{Area}
 use Rattle.header.specs.declared.Area.the-variants as areas
 use Rattle.header.proofs.Header.op.Kinds as op-kinds
@@ -56,6 +58,16 @@ says-one-part (parts.At a b) (parts.Refused x) e = cc
 says-one-part (parts.Refused a) (parts.At x y) e = cc
 says-one-part (parts.Refused a) (parts.Refused x) e = cc
 
+says-one-address : (r q : Chaddr) → saysAddress r ≡ saysAddress q → r ≡ q
+says-one-address (chaddrs.At a b c d) (chaddrs.At x y z w) e =
+    let one : rfc.Address = record { shown = rfc.part a b; own = c; spills = d } in
+    let other : rfc.Address = record { shown = rfc.part x y; own = z; spills = w } in
+    let p : one ≡ other = cc in
+    λ i. chaddrs.At (p i .shown .start) (p i .shown .len) (p i .own) (p i .spills)
+says-one-address (chaddrs.At a b c d) (chaddrs.Refused x) e = cc
+says-one-address (chaddrs.Refused a) (chaddrs.At x y z w) e = cc
+says-one-address (chaddrs.Refused a) (chaddrs.Refused x) e = cc
+
 says-one-area : (r q : Area) → saysArea r ≡ saysArea q → r ≡ q
 says-one-area (areas.At a b) (areas.At x y) e = let p : rfc.part a b ≡ rfc.part x y = cc in λ i. areas.At (p i .start) (p i .len)
 says-one-area (areas.At a b) areas.WrongMagic e = cc
@@ -101,7 +113,7 @@ giaddr-unique : Unique 1 giaddr-kinds.ps giaddr-kinds.r giaddr.Post
 giaddr-unique κs a x y s t p q = says-one x y (p ∙ sym q)
 
 chaddr-unique : Unique 1 chaddr-kinds.ps chaddr-kinds.r chaddr.Post
-chaddr-unique κs a x y s t p q = says-one-part x y (p ∙ sym q)
+chaddr-unique κs a x y s t p q = says-one-address x y (p ∙ sym q)
 
 sname-unique : Unique 1 sname-kinds.ps sname-kinds.r sname.Post
 sname-unique κs a x y s t p q = says-one-part x y (p ∙ sym q)

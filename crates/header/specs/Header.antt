@@ -12,9 +12,12 @@ use Rattle.header.specs.declared.Number as number
 use Rattle.header.specs.declared.Number.the-variants as numbers
 use Rattle.header.specs.declared.Part as part
 use Rattle.header.specs.declared.Part.the-variants as parts
+use Rattle.header.specs.declared.Chaddr as chaddr
+use Rattle.header.specs.declared.Chaddr.the-variants as chaddrs
 use Rattle.header.specs.declared.Area as area
 use Rattle.header.specs.declared.Area.the-variants as areas
 use Rattle.header.specs.declared.Fields.{Fields}
+use Rattle.header.specs.declared.ChaddrFields.{ChaddrFields}
 
 -- what each case of an answer says: the document's number and values
 abbrev pub says : number.Number → Answer ℕ
@@ -24,6 +27,10 @@ says (numbers.Refused k) = refused k
 abbrev pub saysPart : part.Part → Answer rfc.Part
 saysPart (parts.At start len) = given (rfc.part start len)
 saysPart (parts.Refused k) = refused k
+
+abbrev pub saysAddress : chaddr.Chaddr → Answer rfc.Address
+saysAddress (chaddrs.At start len own spills) = given (record { shown = rfc.part start len; own = own; spills = spills })
+saysAddress (chaddrs.Refused k) = refused k
 
 abbrev pub saysArea : area.Area → Answer rfc.Area
 saysArea (areas.At start len) = given (rfc.options (rfc.part start len))
@@ -48,11 +55,22 @@ lenIn (given p) = p .len
 lenIn (refused k) = 0
 lenIn (needs len) = 0
 
--- 3 where the bytes are not all there, else 0
-abbrev pub cutIn : Answer rfc.Part → ℕ
-cutIn (given p) = 0
+-- 3 where the address's bytes are not all there, else 0
+abbrev pub cutIn : Answer rfc.Address → ℕ
+cutIn (given x) = 0
 cutIn (refused k) = cond (eqb k 3) 3 0
 cutIn (needs len) = 0
+
+-- how many of them lie in the field, and whether it spills; 0 and false where it is refused
+abbrev pub ownIn : Answer rfc.Address → ℕ
+ownIn (given x) = x .own
+ownIn (refused k) = 0
+ownIn (needs len) = 0
+
+abbrev pub spillsIn : Answer rfc.Address → Bool
+spillsIn (given x) = x .spills
+spillsIn (refused k) = false
+spillsIn (needs len) = false
 
 -- whether the magic is another
 abbrev pub magicIn : Answer rfc.Area → Bool
@@ -80,10 +98,15 @@ allOf message =
       hlen = numberIn (rfc.field rfc.hlen message);
       hops = numberIn (rfc.field rfc.hops message);
       «chaddr_refused» = cutIn (rfc.chaddr message);
+      «chaddr_own» = ownIn (rfc.chaddr message);
+      «chaddr_spills» = spillsIn (rfc.chaddr message);
       «wrong_magic» = magicIn (rfc.area message);
     }
 
--- Between the functions of the crate: the fields of a message that this number refuses
+-- Between the functions of the crate: what these say of chaddr, and the fields of a message that this number refuses
+abbrev pub chaddrIn : Answer rfc.Address → ChaddrFields
+chaddrIn answer = record { refused = cutIn answer; own = ownIn answer; spills = spillsIn answer }
+
 abbrev pub noneOf : ℕ → Fields
 noneOf k =
     record {
@@ -102,6 +125,8 @@ noneOf k =
       hlen = 0;
       hops = 0;
       «chaddr_refused» = 0;
+      «chaddr_own» = 0;
+      «chaddr_spills» = false;
       «wrong_magic» = false;
     }
 

@@ -1,10 +1,11 @@
 // The fixed header of a message (RFC 2131, section 2), as the crate's `Message` reads it: each field of a message of any length, or the
 // number of its refusal.
+ghost use Prim.Native.Nat.{min};
 ghost use mathlib.Core.Path.{_≡_};
 ghost use mathlib.Core.Bool.{not};
 ghost use Rattle.rfc.specs.Numbers.{firstRefusal};
 ghost use Rattle.rfc.specs.Header as rfc;
-ghost use Rattle.header.specs.Header.{says, saysPart, saysArea, allOf, noneOf, cutIn, Whole, Sized, Inside};
+ghost use Rattle.header.specs.Header.{says, saysPart, saysAddress, saysArea, allOf, noneOf, chaddrIn, Whole, Sized, Inside};
 use limits::LEAST_MESSAGE;
 use limits::MOST_BYTES;
 
@@ -17,6 +18,18 @@ pub enum Number {
 // Where bytes of the message stand, for `part` to show, or a refusal by its number.
 pub enum Part {
     At { start: usize, len: usize },
+    Refused(u8),
+}
+
+// Where the hardware address stands, `len` bytes, for `part` to show: `own` of them lie in chaddr's field, and `spills` says that hlen is
+// above the 16 that it has, so that the others are bytes of what stands behind it. Or a refusal by its number.
+pub enum Chaddr {
+    At {
+        start: usize,
+        len: usize,
+        own: usize,
+        spills: bool,
+    },
     Refused(u8),
 }
 
@@ -48,6 +61,9 @@ pub struct Fields {
     pub hops: u8,
     // 3 where chaddr's hlen bytes are not all there, else 0.
     pub chaddr_refused: u8,
+    // How many of chaddr's bytes lie in its field, and whether hlen is above the 16 that it has; 0 and false where chaddr is refused.
+    pub chaddr_own: u8,
+    pub chaddr_spills: bool,
     pub wrong_magic: bool,
 }
 
@@ -185,21 +201,23 @@ impl Header {
         field(message, Header::GIADDR, Header::GIADDR_SIZE)
     }
 
-    // The hlen bytes from chaddr on, running into sname where hlen is above 16.
-    pub fn chaddr(message: &[u8]) -> Part
-        ensures { λ r. ⌜ saysPart r ≡ rfc.chaddr (now (message .entry)) ⌝ }
+    // The hlen bytes from chaddr on, running into what stands behind its field where hlen is above 16.
+    pub fn chaddr(message: &[u8]) -> Chaddr
+        ensures { λ r. ⌜ saysAddress r ≡ rfc.chaddr (now (message .entry)) ⌝ }
     {
         let refused = refusal_of(message);
         if refused != 0 {
-            return Part::Refused(refused);
+            return Chaddr::Refused(refused);
         }
         let len = message[Header::HLEN] as usize;
         if message.len() < Header::CHADDR + len {
-            return Part::Refused(3);
+            return Chaddr::Refused(3);
         }
-        Part::At {
+        Chaddr::At {
             start: Header::CHADDR,
             len,
+            own: own_bytes(len),
+            spills: spills(len),
         }
     }
 
@@ -320,16 +338,48 @@ fn wrong_magic(message: &[u8]) -> bool
     decoder::u32_at(head, Header::MAGIC) != decoder::be_u32(99, 130, 83, 99)
 }
 
-// The number that refuses the showing of chaddr alone.
-fn chaddr_refusal(message: &[u8]) -> u8
-    requires { ⌜ Whole (now message) ⌝ }
-    ensures { λ r. ⌜ r ≡ cutIn (rfc.chaddr (now (message .entry))) ⌝ }
+// How many bytes of an address of so many lie in chaddr's field.
+fn own_bytes(len: usize) -> usize
+    ensures { λ r. ⌜ r ≡ min len (rfc.chaddrField .len) ⌝ }
 {
-    let end = Header::CHADDR + (message[Header::HLEN] as usize);
-    if message.len() < end {
-        return 3;
+    if len < Header::CHADDR_SIZE {
+        return len;
     }
-    0
+    Header::CHADDR_SIZE
+}
+
+// Whether an address of so many bytes runs past chaddr's field.
+fn spills(len: usize) -> bool
+    ensures { λ r. ⌜ r ≡ rfc.spills len ⌝ }
+{
+    len > Header::CHADDR_SIZE
+}
+
+// What all fields at once say of chaddr.
+struct ChaddrFields {
+    refused: u8,
+    own: u8,
+    spills: bool,
+}
+
+fn read_chaddr(message: &[u8]) -> ChaddrFields
+    requires { ⌜ Whole (now message) ⌝ }
+    ensures { λ r. ⌜ r ≡ chaddrIn (rfc.chaddr (now (message .entry))) ⌝ }
+{
+    let len = message[Header::HLEN] as usize;
+    let end = Header::CHADDR + len;
+    if message.len() < end {
+        return ChaddrFields {
+            refused: 3,
+            own: 0,
+            spills: false,
+        };
+    }
+    ChaddrFields {
+        refused: 0,
+        own: own_bytes(len) as u8,
+        spills: spills(len),
+    }
 }
 
 // All fields of a message that is not refused. The texts come first: the other reads then stand together, with no loop between them.
@@ -338,9 +388,12 @@ fn read_all(message: &[u8]) -> Fields
     ensures { λ r. ⌜ r ≡ allOf (now (message .entry)) ⌝ }
 {
     let head = &message[0..LEAST_MESSAGE];
+    let sname = text_len(message, Header::SNAME, Header::SNAME_SIZE);
+    let file = text_len(message, Header::FILE, Header::FILE_SIZE);
+    let chaddr = read_chaddr(message);
     Fields {
-        sname: text_len(message, Header::SNAME, Header::SNAME_SIZE),
-        file: text_len(message, Header::FILE, Header::FILE_SIZE),
+        sname,
+        file,
         xid: decoder::u32_at(head, Header::XID),
         ciaddr: decoder::u32_at(head, Header::CIADDR),
         yiaddr: decoder::u32_at(head, Header::YIADDR),
@@ -353,7 +406,9 @@ fn read_all(message: &[u8]) -> Fields
         htype: message[Header::HTYPE],
         hlen: message[Header::HLEN],
         hops: message[Header::HOPS],
-        chaddr_refused: chaddr_refusal(message),
+        chaddr_refused: chaddr.refused,
+        chaddr_own: chaddr.own,
+        chaddr_spills: chaddr.spills,
         wrong_magic: wrong_magic(message),
     }
 }
@@ -378,6 +433,8 @@ fn refused_all(number: u8) -> Fields
         hlen: 0,
         hops: 0,
         chaddr_refused: 0,
+        chaddr_own: 0,
+        chaddr_spills: false,
         wrong_magic: false,
     }
 }

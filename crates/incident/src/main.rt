@@ -1,6 +1,7 @@
 // The message of the incident as the library reads it: 244 bytes whose hlen says 255, and the same with 39 bytes more.
 use borrowed::answer::Stop;
 use header::Area;
+use header::Chaddr;
 use header::Header;
 use header::Number;
 use header::Part;
@@ -27,7 +28,7 @@ fn tell(message: &[u8]) {
     say_number(message.len());
     io::write_all(1, b"\n");
     tell_fields(message);
-    say_part(b"chaddr", message, Header::chaddr(message));
+    say_chaddr(message, Header::chaddr(message));
     say_part(b"sname", message, Header::sname(message));
     say_part(b"file", message, Header::file(message));
     tell_area(message, Header::area(message));
@@ -59,19 +60,44 @@ fn say_field(name: &[u8], field: Number) {
     io::write_all(1, b"\n");
 }
 
-// Where a part stands, and how many bytes of it are shown.
+// Where the hardware address stands, how many bytes of it are shown, and how many of these lie in its field.
+fn say_chaddr(message: &[u8], chaddr: Chaddr) {
+    io::write_all(1, b"chaddr");
+    match chaddr {
+        Chaddr::At {
+            start,
+            len,
+            own,
+            spills,
+        } => {
+            say_shown(message, start, len);
+            io::write_all(1, b", ");
+            say_number(own);
+            io::write_all(1, b" in the field");
+            if spills {
+                io::write_all(1, b", spills");
+            }
+        }
+        Chaddr::Refused(number) => say_refused(number),
+    }
+    io::write_all(1, b"\n");
+}
+
 fn say_part(name: &[u8], message: &[u8], part: Part) {
     io::write_all(1, name);
     match part {
-        Part::At { start, len } => {
-            io::write_all(1, b" from ");
-            say_number(start);
-            io::write_all(1, b" bytes ");
-            say_number(borrowed::part(message, start, len).len());
-        }
+        Part::At { start, len } => say_shown(message, start, len),
         Part::Refused(number) => say_refused(number),
     }
     io::write_all(1, b"\n");
+}
+
+// Where bytes stand, and how many of them are shown.
+fn say_shown(message: &[u8], start: usize, len: usize) {
+    io::write_all(1, b" from ");
+    say_number(start);
+    io::write_all(1, b" bytes ");
+    say_number(borrowed::part(message, start, len).len());
 }
 
 fn tell_area(message: &[u8], area: Area) {

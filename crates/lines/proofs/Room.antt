@@ -19,7 +19,7 @@ use Rattle.rfc.specs.Kinds.{kindOf}
 use Rattle.rfc.specs.Lists.{Bytes}
 use Rattle.rfc.proofs.Numbers.{Clear, short, not-short}
 use Rattle.rfc.proofs.Codes.{kind-below}
-use Rattle.rfc.proofs.Header.{message-read, chaddr-cut, chaddr-given, area-wrong, area-given}
+use Rattle.rfc.proofs.Header.{message-read, hlen-read, chaddr-cut, chaddr-given, area-wrong, area-given}
 use Rattle.rfc.proofs.Walk.{step-walked}
 use Rattle.rfc.proofs.Bytes.{byte-below, bytes-part}
 use Rattle.rfc.proofs.Places.{option-takes, walk-stands, values-bytes, code-byte}
@@ -27,7 +27,7 @@ use Rattle.pen.specs.Texts.{space, named}
 use Rattle.pen.proofs.Lengths.{Most, word-most, both-most, decimal-below, decimal-most, decimal-small, spaced-most}
 use Rattle.lines.specs.Words as words
 use Rattle.lines.specs.Words.{newline}
-use Rattle.lines.specs.Listing.{mostListed, messageLine, refusedLine, addressText, chaddrLine, optionLine, stopWord, stopLine, onward, linesIn, areaLines, listing}
+use Rattle.lines.specs.Listing.{mostListed, messageLine, refusedLine, spillText, addressText, chaddrLine, optionLine, stopWord, stopLine, onward, linesIn, areaLines, listing}
 
 -- The lines
 pub number-most : (word : List ℕ) (n : ℕ) → Most (named word n) (length word + 20)
@@ -44,6 +44,11 @@ message-most message =
     let two = both-most (number-most words.message (length message)) (numbered words.op header.op) in
     let four = both-most (both-most two (numbered words.htype header.htype)) (numbered words.hlen header.hlen) in
     ended (both-most four (numbered words.xid header.xid))
+
+spill-most : (spills : Bool) → Most (spillText spills) 7
+unfolding spillText
+spill-most true = ended (word-most words.spill)
+spill-most false = record { most = omega arith }
 
 pub refused-most : (number : ℕ) → Most (refusedLine number) 29
 unfolding refusedLine
@@ -115,33 +120,35 @@ lines-most area room (suc k) place bytes h =
 
 -- The address
 module _ (message : List ℕ) (bytes : Bytes message) where
-  shown-most : (p : header.Part) → p .len ≤ 255 → length (addressText message (given p)) ≤ 1021
+  shown-most : (x : header.Address) → x .shown .len ≤ 255 → length (addressText message (given x)) ≤ 1027
   unfolding addressText
-  shown-most p h =
-      omega (arith, length-take (p .len) (drop (p .start) message), ended (spaced-most (bytesOf p message) (bytes-part p message bytes)) .most)
+  shown-most x h =
+      let p = x .shown in
+      let text = both-most (spaced-most (bytesOf p message) (bytes-part p message bytes)) (spill-most (x .spills)) in
+      omega (arith, length-take (p .len) (drop (p .start) message), text .most)
 
-  cut-most : length (addressText message (refused 3)) ≤ 1021
+  cut-most : length (addressText message (refused 3)) ≤ 1027
   unfolding addressText
   cut-most = omega (arith, both-most (word-most space) (refused-most 3) .most)
 
   -- hlen is a byte
-  small : leastMessage ≤ length message → number (bytesOf header.hlen message) ≤ 255
+  small : leastMessage ≤ length message → header.hlenOf message ≤ 255
   small h =
       let field = bytesOf header.hlen message in
       let one : length field ≡ 1 = length-take-le 1 (drop 2 message) (omega (arith, length-drop 2 message)) in
       let below = number-below field (byte-below field (bytes-part header.hlen message bytes)) in
       let byte = subst (λ (k : ℕ). number field < 256 ^ k) one below in
-      omega arith
+      omega (arith, hlen-read message)
 
   address-most : Clear (header.messageChecks message) → leastMessage ≤ length message
-      → length (addressText message (header.chaddr message)) ≤ 1021
+      → length (addressText message (header.chaddr message)) ≤ 1027
   address-most c h = go (decLe (28 + n) (length message))
     where
       n : ℕ
-      n = number (bytesOf header.hlen message)
+      n = header.hlenOf message
 
-      go : Dec (28 + n ≤ length message) → length (addressText message (header.chaddr message)) ≤ 1021
-      go (yes g) = rw (chaddr-given message c n refl g) (shown-most (header.part 28 n) (small h))
+      go : Dec (28 + n ≤ length message) → length (addressText message (header.chaddr message)) ≤ 1027
+      go (yes g) = rw (chaddr-given message c n refl g) (shown-most (header.address n) (small h))
       go (no g) = rw (chaddr-cut message c n refl (omega arith)) cut-most
 
   -- The area is all but the first 240 bytes

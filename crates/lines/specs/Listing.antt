@@ -1,7 +1,7 @@
 -- The listing of a message: its text as ASCII, line by line (document 01, "Worked examples").
 -- Assumes nothing.
 use Prim.Native.Nat.{ℕ, suc, zero}
-use mathlib.Core.Bool.{cond}
+use mathlib.Core.Bool.{Bool, cond}
 use mathlib.Core.List.{List, [], _++_}
 use lib.Dec.{ltb}
 use lib.ListN.{length}
@@ -33,9 +33,13 @@ messageLine message =
 unfoldable pub refusedLine : ℕ → List ℕ
 refusedLine number = named words.refused number ++ newline
 
--- line 2: the address bytes, or the refusal
-unfoldable pub addressText : List ℕ → Answer header.Part → List ℕ
-addressText message (given p) = spaced (bytesOf p message) ++ newline
+-- the end of line 2: the word spill where hlen is above 16 (document 02, ticket 4)
+unfoldable pub spillText : Bool → List ℕ
+spillText spills = cond spills words.spill [] ++ newline
+
+-- line 2: the address bytes and whether they spill, or the refusal
+unfoldable pub addressText : List ℕ → Answer header.Address → List ℕ
+addressText message (given x) = spaced (bytesOf (x .shown) message) ++ spillText (x .spills)
 addressText message (refused number) = space ++ refusedLine number
 addressText message (needs len) = space ++ refusedLine 5
 

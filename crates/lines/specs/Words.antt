@@ -91,6 +91,9 @@ xid = sp ∷ x ∷ i ∷ d ∷ sp ∷ []
 abbrev pub chaddr : List ℕ
 chaddr = c ∷ h ∷ a ∷ d ∷ d ∷ r ∷ []
 
+abbrev pub spill : List ℕ
+spill = sp ∷ s ∷ p ∷ i ∷ l ∷ l ∷ []
+
 abbrev pub option : List ℕ
 option = o ∷ p ∷ t ∷ i ∷ o ∷ n ∷ sp ∷ []
 

@@ -8,16 +8,16 @@ ghost use Rattle.encoder.specs.Written.{Wrote};
 ghost use Rattle.header.specs.declared.Number.the-variants.{Is};
 ghost use Rattle.borrowed.specs.Walked.{stopOf};
 ghost use Rattle.pen.specs.Adding.{addsAll};
-ghost use Rattle.lines.specs.Listing.{messageLine, addressText, chaddrLine, areaLines, listing};
+ghost use Rattle.lines.specs.Listing.{messageLine, spillText, addressText, chaddrLine, areaLines, listing};
 ghost use Rattle.lines.specs.Listing.{refusedLine, optionLine, stopWord, stopLine, linesIn};
 ghost use Rattle.lines.specs.Told.{Listed, Given};
 use borrowed::answer::Step;
 use borrowed::answer::Stop;
 use encoder::Written;
 use header::Area;
+use header::Chaddr;
 use header::Header;
 use header::Number;
-use header::Part;
 use limits::LEAST_MESSAGE;
 use limits::MOST_BYTES;
 
@@ -101,21 +101,36 @@ fn put_chaddr(text: &mut [u8], at: usize, message: &[u8]) -> usize
     put_address(text, to, message)
 }
 
-// Adds the bytes of the hardware address, or its refusal.
+// Adds the bytes of the hardware address and whether it spills, or its refusal.
 fn put_address(text: &mut [u8], at: usize, message: &[u8]) -> usize
     ensures { λ r. ⌜ (now (text .exit), r)
         ≡ addsAll (now (text .entry), at) (addressText (now (message .entry)) (rfc.chaddr (now (message .entry)))) ⌝ }
 {
     match Header::chaddr(message) {
-        Part::Refused(number) => {
+        Chaddr::Refused(number) => {
             let to = pen::put_word(text, at, b" ");
             put_refused(text, to, number)
         }
-        Part::At { start, len } => {
+        Chaddr::At {
+            start,
+            len,
+            own: _,
+            spills,
+        } => {
             let end = pen::put_spaced(text, at, borrowed::part(message, start, len));
-            pen::put_word(text, end, b"\n")
+            put_spill(text, end, spills)
         }
     }
+}
+
+// Adds the end of the address's line, and in front of it the word for an address that spills.
+fn put_spill(text: &mut [u8], at: usize, spills: bool) -> usize
+    ensures { λ r. ⌜ (now (text .exit), r) ≡ addsAll (now (text .entry), at) (spillText spills) ⌝ }
+{
+    if spills {
+        return pen::put_word(text, at, b" spill\n");
+    }
+    pen::put_word(text, at, b"\n")
 }
 
 // Adds the lines of the options.

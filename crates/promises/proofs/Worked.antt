@@ -10,7 +10,7 @@ use Rattle.facts.specs.Over.{over}
 use Rattle.facts.specs.Pieces.{piecesIn, pieces}
 use Rattle.facts.specs.Ranges.{within, lookup}
 use Rattle.rfc.specs.Numbers.{andThen, tooLong, tooShort, pastEnd, noElement, noCode, tooMuch, noRoom, checked, firstRefusal}
-use Rattle.rfc.specs.Header.{messageChecks, magicRight, area, field, chaddrPart, chaddrCut, chaddrChecks, chaddr, untilZero, textField, sname}
+use Rattle.rfc.specs.Header.{messageChecks, magicRight, area, field, hlenOf, spills, chaddrCut, chaddrChecks, chaddr, untilZero, textField, sname}
 use Rattle.rfc.specs.Walk.{extend, furtherIn, further, joined, behind, walk, roomFor, stepChecks, step, joinAfter, placeAfter, end}
 use Rattle.rfc.specs.Kinds.{kinds, kindOf, sizes, sizeOf}
 use Rattle.rfc.specs.Text.{forms, lead, owes, whole, utf8From, utf8}
@@ -34,8 +34,8 @@ unfolding piecesIn pieces within lookup andThen tooLong tooShort pastEnd noEleme
 of-numbers = (refl, refl, refl, refl, refl, refl, refl, refl, refl, refl, refl, refl, refl, refl, refl)
 
 pub of-header : OfHeader
-unfolding tooLong tooShort checked messageChecks field chaddrPart chaddrCut chaddrChecks chaddr untilZero textField sname magicRight area
-of-header = (refl, refl, refl, refl, refl, refl, refl, refl, refl, refl, refl, refl, refl, refl, refl, refl)
+unfolding tooLong tooShort checked messageChecks field hlenOf spills chaddrCut chaddrChecks chaddr untilZero textField sname magicRight area
+of-header = (refl, refl, refl, refl, refl, refl, refl, refl, refl, refl, refl, refl, refl, refl, refl, refl, refl, refl, refl, refl)
 
 pub of-walk : OfWalk
 unfolding over tooLong pastEnd checked extend furtherIn further joined behind walk roomFor stepChecks step joinAfter placeAfter

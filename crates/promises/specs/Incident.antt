@@ -3,6 +3,7 @@
 -- Assumes nothing.
 use Prim.Native.Nat.{ℕ}
 use mathlib.Core.Path.{_≡_}
+use mathlib.Core.Bool.{true, false}
 use mathlib.Core.List.{List, [], _∷_, _++_, map}
 use lib.ListN.{length, replicate, take, drop}
 use Rattle.rfc.specs.Numbers.{Answer, given, refused, mostValue}
@@ -40,11 +41,17 @@ Incident =
 
 -- all 255 bytes, the last of the message among them
 abbrev pub LongerShows : Type 0
-LongerShows = (length longer ≡ 283) × (chaddr longer ≡ given (part 28 255)) × (bytesOf (part 28 255) longer ≡ drop 28 longer)
+LongerShows =
+    (length longer ≡ 283)
+    × (chaddr longer ≡ given (record { shown = part 28 255; own = 16; spills = true }))
+    × (bytesOf (part 28 255) longer ≡ drop 28 longer)
 
--- a message of 240 bytes shows an address up to its last byte, and one byte more is 3; 239 bytes are 1
+-- an address of 16 bytes is in its field, and one byte more spills. A message of 240 bytes shows one up to its last byte, and one byte
+-- more is 3; 239 bytes are 1
 abbrev pub AddressBounds : Type 0
 AddressBounds =
-    (chaddr (reply 212 []) ≡ given (part 28 212))
+    (chaddr (reply 16 []) ≡ given (record { shown = part 28 16; own = 16; spills = false }))
+    × (chaddr (reply 17 []) ≡ given (record { shown = part 28 17; own = 16; spills = true }))
+    × (chaddr (reply 212 []) ≡ given (record { shown = part 28 212; own = 16; spills = true }))
     × (chaddr (reply 213 []) ≡ refused 3)
     × (chaddr (take 239 (reply 212 [])) ≡ refused 1)

@@ -6,6 +6,7 @@ pub mod Writing
 pub mod Lists
 pub mod Examples
 pub mod Incident
+pub mod Spill
 pub mod Worked
 pub mod Aggregate
 pub mod Overloaded

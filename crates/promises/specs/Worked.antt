@@ -15,7 +15,7 @@ use Rattle.facts.specs.Pieces.{pieces}
 use Rattle.facts.specs.Ranges.{lookup, row}
 use Rattle.facts.specs.BigEndian.{digits, number, numberAt, signed, unsigned}
 use Rattle.rfc.specs.Numbers.{andThen, check, checked, firstRefusal, given, mostPart, needs, noCode, noElement, noRoom, order, pastEnd, refused, tooLong, tooMuch, tooShort}
-use Rattle.rfc.specs.Header.{area, chaddr, chaddrPart, field, fileField, flags, hlen, magic, magicField, magicRight, options, part, sname, untilZero, wrongMagic, xid, yiaddr}
+use Rattle.rfc.specs.Header.{address, area, chaddr, field, fileField, flags, hlen, hlenOf, magic, magicField, magicRight, options, part, sname, spills, untilZero, wrongMagic, xid, yiaddr}
 use Rattle.rfc.specs.Walk.{behind, cut, cutContinuation, cutLength, cutValue, end, extend, further, joinAfter, joined, option, out, placeAfter, roomFor, run, step, stop, walk}
 use Rattle.rfc.specs.Kinds.{from, has, kindOf, only, sizeOf}
 use Rattle.rfc.specs.Text.{lead, owes, tail, utf8}
@@ -95,8 +95,12 @@ OfHeader =
     × (fileField .start + fileField .len ≡ magicField .start)
     × (magicField ≡ part 236 4)
     × (field xid (replicate 239 0) ≡ refused 1)
-    × (chaddrPart sample ≡ part 28 6)
-    × (chaddr sample ≡ given (part 28 6))
+    × (hlenOf sample ≡ 6)
+    × (spills 16 ≡ false)
+    × (spills 17 ≡ true)
+    × (address 6 ≡ record { shown = part 28 6; own = 6; spills = false })
+    × (address 17 ≡ record { shown = part 28 17; own = 16; spills = true })
+    × (chaddr sample ≡ given (address 6))
     × (chaddr incident ≡ refused 3)
     × (untilZero (97 ∷ 98 ∷ 0 ∷ 99 ∷ []) ≡ 2)
     × (sname sample ≡ given (part 44 4))

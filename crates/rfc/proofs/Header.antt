@@ -1,18 +1,19 @@
 -- The laws of `specs/Header.antt`: which messages are refused, and what each reading of the others answers.
 -- Assumes nothing.
 use mathlib.Core.Path.{_≡_, refl, sym, ap, _∙_}
-use Prim.Native.Nat.{ℕ, suc, _+_, _-_, _≤_, _<_}
+use Prim.Native.Nat.{ℕ, suc, _+_, _-_, _≤_, _<_, min}
 use native.Mathlib.Numerals.{add-one}
 use native.Mathlib.Omega.{arith}
+use native.Mathlib.Decide.{decLe}
 use mathlib.Core.Bool.{Bool, true, false, cond}
-use mathlib.Core.List.{List, [], _∷_}
-use lib.Dec.{eqb}
-use lib.ListN.{length, drop, getD, length-take, drop-of-length-le}
-use lib.Seq.{drop-cons}
+use mathlib.Core.List.{List, [], _∷_, _++_, append-nil}
+use lib.Dec.{eqb, ltb}
+use lib.ListN.{length, take, drop, getD, length-take, drop-of-length-le}
+use lib.Seq.{drop-cons, take-take, take-add, drop-drop}
 use borrow.Author.Tests.{eq-eqb, ne-eqb, lt-ltb, le-ltb, ltb-false}
 use Rattle.facts.specs.BigEndian.{number}
 use Rattle.rfc.specs.Numbers.{given, refused, leastMessage, mostBytes}
-use Rattle.rfc.specs.Header.{Part, part, bytesOf, hlen, chaddrField, snameField, fileField, magicField, messageChecks, field, chaddrPart, chaddrCut, chaddrChecks, chaddr, untilZero, textField, sname, file, magic, magicRight, options, wrongMagic, areaStart, area}
+use Rattle.rfc.specs.Header.{Part, part, bytesOf, hlen, chaddrField, snameField, fileField, magicField, messageChecks, field, hlenOf, spills, Address, address, chaddrCut, chaddrChecks, chaddr, untilZero, textField, sname, file, magic, magicRight, options, wrongMagic, areaStart, area}
 use Rattle.rfc.proofs.Numbers.{Refuses, here, later, refuses, Clear, done, next, clears, clear-last, passes, refuses-front, refuses-behind, clear-both, given-no, long, not-long, not-too-long, short, not-short, long-enough}
 
 module _ (message : List ℕ) where
@@ -84,25 +85,32 @@ module _ (message : List ℕ) where
   unfolding chaddr chaddrChecks
   chaddr-refused r = refuses _ (refuses-front _ r)
 
-  module _ (c : Clear (messageChecks message)) (n : ℕ) (e : n ≡ number (bytesOf hlen message)) where
+  pub hlen-read : hlenOf message ≡ number (bytesOf hlen message)
+  unfolding hlenOf
+  hlen-read = refl
+
+  module _ (c : Clear (messageChecks message)) (n : ℕ) (e : n ≡ hlenOf message) where
     pub chaddr-cut : length message < chaddrField .start + n → chaddr message ≡ refused 3
-    unfolding chaddr chaddrChecks chaddrCut chaddrPart
+    unfolding chaddr chaddrChecks chaddrCut
     chaddr-cut h = refuses _ (refuses-behind c (here (rw (sym e) (lt-ltb (length message) (28 + n) h))))
 
-    pub chaddr-given : chaddrField .start + n ≤ length message → chaddr message ≡ given (part (chaddrField .start) n)
-    unfolding chaddr chaddrChecks chaddrCut chaddrPart
+    pub chaddr-given : chaddrField .start + n ≤ length message → chaddr message ≡ given (address n)
+    unfolding chaddr chaddrChecks chaddrCut
     chaddr-given h =
         clears _ (clear-both c (next (rw (sym e) (le-ltb (length message) (28 + n) h)) done))
-        ∙ ap (λ (k : ℕ). given (part 28 k)) (sym e)
+        ∙ ap (λ (k : ℕ). given (address k)) (sym e)
 
-  -- what is shown is there
-  pub chaddr-inside : (p : Part) → chaddr message ≡ given p → p .start + p .len ≤ length message
+  -- back from its answer: it is that of hlen, and what is shown is there
+  pub given-chaddr : (x : Address) → chaddr message ≡ given x
+      → (address (hlenOf message) ≡ x) × (chaddrField .start + hlenOf message ≤ length message)
   unfolding chaddr chaddrChecks chaddrCut
-  chaddr-inside p e =
-      let q = passes (chaddrChecks message) _ (given p) (given-no p) e in
-      let same : given (chaddrPart message) ≡ given p = q .1 in
-      let is : chaddrPart message ≡ p = cc in
-      rw (← is) (ltb-false (length message) _ (clear-last (messageChecks message) (chaddrCut message) 3 (q .0)))
+  given-chaddr x e =
+      let q = passes (chaddrChecks message) _ (given x) (given-no x) e in
+      let same : given (address (hlenOf message)) ≡ given x = q .1 in
+      (cc, ltb-false (length message) _ (clear-last (messageChecks message) (chaddrCut message) 3 (q .0)))
+
+  pub chaddr-inside : (x : Address) → chaddr message ≡ given x → x .shown .start + x .shown .len ≤ length message
+  chaddr-inside x e = let q = given-chaddr x e in rw (← q .0) (q .1)
 
   -- the magic
   pub magic-read : magicRight message ≡ eqb (number (bytesOf magicField message)) (number magic)
@@ -133,6 +141,29 @@ module _ (message : List ℕ) where
           → leastMessage ≤ length message → p .start + p .len ≤ length message
       go true same h = let is : part areaStart (length message - areaStart) ≡ p = cc in rw (← is) (omega arith)
       go false same h = absurd (let z : _≡_ {A = ℕ} 0 1 = cc in omega arith)
+
+-- whether an address of so many bytes spills
+pub spills-read : (n : ℕ) → spills n ≡ ltb (chaddrField .len) n
+unfolding spills
+spills-read n = refl
+
+-- its bytes are so many of the field, and then those behind the field
+pub address-bytes : (n : ℕ) (message : List ℕ) → let x = address n in
+    bytesOf (x .shown) message ≡ take (x .own) (bytesOf chaddrField message) ++ take (n - x .own) (drop (snameField .start) message)
+address-bytes n message = go (decLe n 16)
+  where
+    from : List ℕ
+    from = drop 28 message
+
+    go : Dec (n ≤ 16) → take n from ≡ take (min n 16) (take 16 from) ++ take (n - min n 16) (drop 44 message)
+    go (yes h) =
+        let all : min n 16 ≡ n = omega arith in
+        let none : n - n ≡ 0 = omega arith in
+        rw (all, none, take-take n 16 from h) (sym (append-nil (take n from)))
+    go (no h) =
+        let field : min n 16 ≡ 16 = omega arith in
+        let more : n ≡ 16 + (n - 16) = omega arith in
+        rw (field, take-take 16 16 from (omega arith), ← (drop-drop 16 28 message)) (ap (λ (k : ℕ). take k from) more ∙ take-add 16 (n - 16) from)
 
 -- no more bytes stand before the first zero than there are
 zero-within : (bytes : List ℕ) → untilZero bytes ≤ length bytes

@@ -1,6 +1,6 @@
 -- The fixed header of a message (RFC 2131, section 2, figure 1 and table 1; document 01, "The fixed header").
 -- Assumes nothing.
-use Prim.Native.Nat.{ℕ, suc, _+_, _-_}
+use Prim.Native.Nat.{ℕ, suc, _+_, _-_, min}
 use mathlib.Core.Bool.{Bool, cond}
 use mathlib.Core.List.{List, [], _∷_, _++_}
 use lib.ListN.{length, take, drop}
@@ -74,19 +74,34 @@ messageChecks message = check (tooLong message) 2 ∷ check (tooShort message) 1
 unfoldable pub field : Part → List ℕ → Answer ℕ
 field f message = checked (messageChecks message) (given (number (bytesOf f message)))
 
--- the hlen bytes from chaddr's first place on: up to 255 of them, as the crate shows them, though figure 1 gives the field 16
-unfoldable pub chaddrPart : List ℕ → Part
-chaddrPart message = part (chaddrField .start) (number (bytesOf hlen message))
+-- how many bytes the hardware address has, as the message says it
+unfoldable pub hlenOf : List ℕ → ℕ
+hlenOf message = number (bytesOf hlen message)
+
+-- whether an address of so many bytes has more than the 16 of figure 1's field (document 02, ticket 4)
+unfoldable pub spills : ℕ → Bool
+spills n = ltb (chaddrField .len) n
+
+-- what chaddr answers (document 02, ticket 4): the bytes that are shown, how many of them lie in the field proper, and whether hlen is
+-- above 16
+pub record Address : Type 0 where
+  pub shown : Part
+  pub own : ℕ
+  pub spills : Bool
+
+-- an address of so many bytes, up to 255, from chaddr's first place on: as the crate shows it, running into what stands behind the field
+abbrev pub address : ℕ → Address
+address n = record { shown = part (chaddrField .start) n; own = min n (chaddrField .len); spills = spills n }
 
 -- 3 (document 01): 28 + hlen is more than the message's length
 unfoldable pub chaddrCut : List ℕ → Bool
-chaddrCut message = ltb (length message) (chaddrPart message .start + chaddrPart message .len)
+chaddrCut message = ltb (length message) (chaddrField .start + hlenOf message)
 
 unfoldable pub chaddrChecks : List ℕ → List Check
 chaddrChecks message = messageChecks message ++ check (chaddrCut message) 3 ∷ []
 
-unfoldable pub chaddr : List ℕ → Answer Part
-chaddr message = checked (chaddrChecks message) (given (chaddrPart message))
+unfoldable pub chaddr : List ℕ → Answer Address
+chaddr message = checked (chaddrChecks message) (given (address (hlenOf message)))
 
 -- how many bytes stand before the first zero, or all
 unfoldable pub untilZero : List ℕ → ℕ

@@ -42,7 +42,8 @@ macro_rules! layouts {
 pub fn layouts() -> Vec<Layout> {
     layouts! {
         Fields {
-            xid ciaddr yiaddr siaddr giaddr secs flags sname file refused op htype hlen hops chaddr_refused wrong_magic
+            xid ciaddr yiaddr siaddr giaddr secs flags sname file refused op htype hlen hops chaddr_refused chaddr_own
+            chaddr_spills wrong_magic
         }
         Field { refused number }
         Step { refused stop code parts len place }

@@ -10,11 +10,12 @@ use Rattle.header.proofs.read_all.Tie as tie
 
 returns : tie.Need-returns
 returns c =
-    let flags = c .before .before .before .before .before .before in
+    let flags = c .before .before .before .before .before in
     let giaddr = flags .before .before in
     let yiaddr = giaddr .before .before in
     let xid = yiaddr .before .before in
-    let file = xid .before in
+    let chaddr = xid .before in
+    let file = chaddr .before in
     let s = file .before .before .before .before in
     let m = s .args .message .now in
     let w = s .pre in
@@ -44,7 +45,7 @@ returns c =
       flags .u16-at2 .ensures,
       file .before .text-len .ensures,
       file .text-len2 .ensures,
-      c .before .chaddr-refusal .ensures,
+      chaddr .read-chaddr .ensures,
       c .wrong-magic .ensures,
     )
 
@@ -64,10 +65,10 @@ read-all-spec =
     (λ c κs. search needs)
     (λ c κs. search needs)
     (λ c κs. search needs)
-    (λ c. search needs)
-    (λ c. search needs)
-    (λ c. search needs)
-    (λ c. search needs)
     (λ c κs. search needs)
+    (λ c. search needs)
+    (λ c. search needs)
+    (λ c. search needs)
+    (λ c. search needs)
     (λ c κs. search needs)
     returns)

@@ -1,8 +1,8 @@
--- `put_address` meets its contract: the bytes that chaddr shows, or its refusal.
+-- `put_address` meets its contract: the bytes that chaddr shows and whether they spill, or its refusal.
 -- Assumes nothing.
 use mathlib.Core.Path.{sym, ap, _∙_}
 use Rattle.rfc.proofs.Header.{chaddr-inside}
-use Rattle.header.specs.Header.{saysPart}
+use Rattle.header.specs.Header.{saysAddress}
 use Rattle.borrowed.proofs.Shown.{part-there}
 use Rattle.pen.proofs.Adding.{both}
 use Rattle.lines.specs.Listing.{addressText}
@@ -22,11 +22,11 @@ returns-2 : tie.Need-returns-2
 unfolding addressText
 returns-2 c =
     let last = c .before .before in
-    let bytes = last .before .before .before .before .before in
+    let bytes = last .before .before .before .before in
     let is = bytes .before .before .before .before in
-    let told = ap saysPart (sym (is .start .given .1)) ∙ is .before .before .chaddr .ensures in
+    let told = ap saysAddress (sym (is .start .given .1)) ∙ is .before .before .chaddr .ensures in
     let shows = bytes .before .part .ensures ∙ part-there _ _ _ (chaddr-inside _ _ (sym told)) in
-    rw (← told, ← shows) (both _ _ _ (bytes .put-spaced .ensures) (last .put-word2 .ensures))
+    rw (← told, ← shows) (both _ _ _ (bytes .put-spaced .ensures) (last .put-spill .ensures))
 
 pub put-address-spec : {M : Type 1} → statement M
 put-address-spec =
@@ -40,7 +40,6 @@ put-address-spec =
     (λ c. search needs)
     (λ c κs. search needs)
     (λ c κs. search needs)
-    (λ c. search needs)
     (λ c κs. search needs)
     (λ c. search needs)
     returns

@@ -29,7 +29,9 @@ returns-2 : tie.Need-returns-2
 returns-2 c = sym (chaddr-past _ (there (c .before .before)) (omega arith))
 
 returns-3 : tie.Need-returns-3
-returns-3 c = sym (chaddr-there _ (there (c .before .before)) (omega arith))
+returns-3 c =
+    let length = c .before .before .before in
+    rw (c .before .own-bytes .ensures, c .spills .ensures) (sym (chaddr-there _ (there (length .before)) (omega arith)))
 
 pub chaddr-spec : {M : Type 1} → statement M
 chaddr-spec =
@@ -41,4 +43,6 @@ chaddr-spec =
     cast-len
     add-if2
     returns-2
+    (λ c κs. search needs)
+    (λ c κs. search needs)
     returns-3)
