@@ -71,11 +71,11 @@ fn a_very_long_listing_fits() {
     assert_eq!(message.len(), 4096);
     let mut room = vec![0; 65_535];
     let text = listing(&message, &mut room).unwrap();
-    assert_eq!(text.len(), 64_674);
+    assert_eq!(text.len(), 64_680);
     let lines: Vec<&str> = text.lines().collect();
     assert_eq!(lines.len(), 2 + 1928 + 1);
     assert_eq!(lines[0], "message 4096 op 255 htype 255 hlen 255 xid 4294967295");
     assert_eq!(lines[2], "option 100 kind 10 parts 1 value");
     assert_eq!(lines.last(), Some(&"stop out 3856"));
-    assert_eq!(listing(&message, &mut room[..64_673]), Err(Refusal::NoRoom));
+    assert_eq!(listing(&message, &mut room[..64_679]), Err(Refusal::NoRoom));
 }

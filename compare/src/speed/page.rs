@@ -42,8 +42,8 @@ crate's `new` and `opts` do, and so does the limit's. \"Find\" and \"entries\" a
 option of a code, and rows of all codes, over all fields that hold options; \"walk to\" is what the walk takes to the same option. The
 crate has no such reading: its side goes over all that its walk gives, and gathers the values of the code, or the lengths by code.
 Texts are ASCII, or characters of one, two, three and four bytes in turn; Rust's own `from_utf8` is held against the library there,
-and a static table behind a call for the kinds. \"The safe crate\" is what a service calls: `Message::new`, `opts`, `find` and `read`
-of the crate `sindovaleph`, over those calls.
+and a static table behind a call for the kinds. \"The safe crate\" is what a service calls: `Message::new` and its fields, `opts`, `find`
+and `read` of the crate `sindovaleph`, over those calls; of the hardware address it takes the bytes that lie in its field.
 ";
 
 /// What stands before the table of what was before.

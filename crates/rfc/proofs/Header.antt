@@ -1,7 +1,7 @@
 -- The laws of `specs/Header.antt`: which messages are refused, and what each reading of the others answers.
 -- Assumes nothing.
 use mathlib.Core.Path.{_≡_, refl, sym, ap, _∙_}
-use Prim.Native.Nat.{ℕ, suc, _+_, _-_, _≤_, _<_, min}
+use Prim.Native.Nat.{ℕ, suc, _+_, _-_, _≤_, _<_}
 use native.Mathlib.Numerals.{add-one}
 use native.Mathlib.Omega.{arith}
 use native.Mathlib.Decide.{decLe}
@@ -155,15 +155,15 @@ address-bytes n message = go (decLe n 16)
     from : List ℕ
     from = drop 28 message
 
-    go : Dec (n ≤ 16) → take n from ≡ take (min n 16) (take 16 from) ++ take (n - min n 16) (drop 44 message)
+    go : Dec (n ≤ 16) → take n from ≡ take (address n .own) (take 16 from) ++ take (n - address n .own) (drop 44 message)
     go (yes h) =
-        let all : min n 16 ≡ n = omega arith in
+        let all : address n .own ≡ n = omega arith in
         let none : n - n ≡ 0 = omega arith in
         rw (all, none, take-take n 16 from h) (sym (append-nil (take n from)))
     go (no h) =
-        let field : min n 16 ≡ 16 = omega arith in
+        let full : address n .own ≡ 16 = omega arith in
         let more : n ≡ 16 + (n - 16) = omega arith in
-        rw (field, take-take 16 16 from (omega arith), ← (drop-drop 16 28 message)) (ap (λ (k : ℕ). take k from) more ∙ take-add 16 (n - 16) from)
+        rw (full, take-take 16 16 from (omega arith), ← (drop-drop 16 28 message)) (ap (λ (k : ℕ). take k from) more ∙ take-add 16 (n - 16) from)
 
 -- no more bytes stand before the first zero than there are
 zero-within : (bytes : List ℕ) → untilZero bytes ≤ length bytes
