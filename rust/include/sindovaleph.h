@@ -95,16 +95,16 @@ typedef struct {
     uint32_t giaddr;
     uint16_t secs;
     uint16_t flags;
-    uint16_t sname; /* how many bytes from 44 on stand before the first zero */
-    uint16_t file;  /* how many bytes from 108 on stand before the first zero */
+    uint16_t sname;      /* how many bytes from 44 on stand before the first zero */
+    uint16_t file;       /* how many bytes from 108 on stand before the first zero */
+    uint16_t chaddr_own; /* how many bytes of chaddr lie in its field, 16 at most: print these; 0 where it is refused */
     uint8_t refused;
     uint8_t op;
     uint8_t htype;
     uint8_t hlen; /* chaddr is so many bytes from 28 on */
     uint8_t hops;
     uint8_t chaddr_refused; /* 3 where chaddr's bytes are not all there, else 0 */
-    uint8_t chaddr_own;     /* so many of them lie in its field, which has 16: print these; 0 where they are refused */
-    bool chaddr_spills;     /* hlen is above 16: the others are none of chaddr's; false where they are refused */
+    bool chaddr_spills;     /* hlen is above 16, so the bytes from 44 on are none of chaddr's; false where it is refused */
     bool wrong_magic;       /* if not, the area of options is all bytes from 240 on */
 } SindovalephFields;
 

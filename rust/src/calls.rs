@@ -28,6 +28,8 @@ pub struct Fields {
     pub sname: u16,
     /// How many bytes of file stand before its first zero.
     pub file: u16,
+    /// How many of chaddr's `hlen` bytes lie in its field, which has 16; 0 where they are refused.
+    pub chaddr_own: u16,
     /// The refusal, 0 for none.
     pub refused: u8,
     /// op.
@@ -40,9 +42,7 @@ pub struct Fields {
     pub hops: u8,
     /// 3 where chaddr's `hlen` bytes are not all there, else 0.
     pub chaddr_refused: u8,
-    /// How many of these bytes lie in the field chaddr, which has 16; 0 where they are refused.
-    pub chaddr_own: u8,
-    /// Whether `hlen` is above 16, so that the others are none of chaddr's; not where they are refused.
+    /// Whether `hlen` is above 16, so that the bytes behind the 16th are none of chaddr's; not where they are refused.
     pub chaddr_spills: bool,
     /// Whether something else than the magic stands before the options.
     pub wrong_magic: bool,

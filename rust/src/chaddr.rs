@@ -3,11 +3,11 @@
 use crate::shown::Hardware;
 use core::fmt;
 
-/// The hardware address of a message: `hlen` bytes, of which the field chaddr holds 16. Where `hlen` is above 16, the
-/// address spills: the other bytes are those of sname, then of file, the magic and the options.
+/// The hardware address of a message: `hlen` bytes from the field chaddr on, which has 16. Where `hlen` is above 16, the
+/// address spills: the bytes behind the 16th are those of sname, then of file, the magic and the options.
 ///
 /// It is no slice and does not become one by itself: text of sname that is printed as part of a MAC address misleads, so
-/// who wants bytes says which. [`Chaddr::own`] is what to print or to know a client by, and so does `{}` print it.
+/// who wants bytes says which. [`Chaddr::own`] is what to print, as `{}` does, and what to know a client by.
 ///
 /// ```
 /// # let mut bytes = [0; 244];
@@ -31,9 +31,9 @@ pub struct Chaddr<'a> {
 }
 
 impl<'a> Chaddr<'a> {
-    /// All bytes, how many of them lie in the field, and whether the others are there, as the header's answer has it.
+    /// All bytes, how many of them lie in the field, and whether `hlen` is above 16, as the header's answer has it.
     #[inline]
-    pub(crate) fn new(bytes: &'a [u8], own: u8, spills: bool) -> Chaddr<'a> {
+    pub(crate) fn new(bytes: &'a [u8], own: u16, spills: bool) -> Chaddr<'a> {
         Chaddr { bytes, own: own.into(), spills }
     }
 

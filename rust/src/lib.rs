@@ -177,7 +177,7 @@
 //! | `opcode() == Opcode::BootRequest` | `opcode() == ops::BOOT_REQUEST`, a number |
 //! | `htype()`, a type of its own | a number: 1 is Ethernet |
 //! | `flags().broadcast()` | `flags() & flags::BROADCAST != 0` |
-//! | `chaddr()`, which panics where hlen is too large | `chaddr()?.bytes()`; [`own()`](Chaddr::own) leaves out what is none of it |
+//! | `chaddr()`, which panics where hlen is too large | `chaddr()?.bytes()`, or [`own()`](Chaddr::own) for what lies in its field |
 //! | `for opt in message.opts() {` | `for opt in message.opts(&mut join) {` and `let opt = opt?;` |
 //! | `DhcpOptionIterator::new(area)` | [`Options::new`]`(area, &mut join)` |
 //! | `DhcpOption`: `code()`, an `OptionCode` | [`Opt`]: `code()`, a number, with names in [`codes`] |

@@ -308,7 +308,7 @@ fn rows_have_the_names_and_the_order_of_what_they_hold() {
 #[test]
 fn sizes_and_offsets() {
     let expected: [(&str, usize, usize, &[usize]); 13] = [
-        ("Fields", 40, 4, &[0, 4, 8, 12, 16, 20, 22, 24, 26, 28, 29, 30, 31, 32, 33, 34, 35, 36]),
+        ("Fields", 40, 4, &[0, 4, 8, 12, 16, 20, 22, 24, 26, 28, 30, 31, 32, 33, 34, 35, 36, 37]),
         ("Field", 16, 8, &[0, 8]),
         ("Step", 32, 8, &[0, 1, 2, 8, 16, 24]),
         ("Value", 16, 8, &[0, 1, 4, 8]),
@@ -359,13 +359,13 @@ fn the_header_crosses() {
         flags: 0x8B8C,
         sname: 3,
         file: 5,
+        chaddr_own: 16,
         refused: 0,
         op: 0x81,
         htype: 0x82,
         hlen: 0x83,
         hops: 0x84,
         chaddr_refused: 0,
-        chaddr_own: 16,
         chaddr_spills: true,
         wrong_magic: false,
     };

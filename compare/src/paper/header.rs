@@ -76,7 +76,7 @@ pub fn header(message: &[u8]) -> Fields {
 /// 16 (document 02, ticket 4).
 struct Address {
     refused: u8,
-    own: u8,
+    own: u16,
     spills: bool,
 }
 
@@ -87,7 +87,7 @@ fn address(message: &[u8]) -> Address {
         return Address { refused, own: 0, spills: false };
     }
     let own = (CHADDR..end).filter(|place| (CHADDR..CHADDR_END).contains(place)).count();
-    Address { refused, own: own as u8, spills: message[2] > 16 }
+    Address { refused, own: own as u16, spills: message[2] > 16 }
 }
 
 /// How many bytes of a field stand before its first zero byte: all where it has none.

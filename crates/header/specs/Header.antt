@@ -17,7 +17,6 @@ use Rattle.header.specs.declared.Chaddr.the-variants as chaddrs
 use Rattle.header.specs.declared.Area as area
 use Rattle.header.specs.declared.Area.the-variants as areas
 use Rattle.header.specs.declared.Fields.{Fields}
-use Rattle.header.specs.declared.ChaddrFields.{ChaddrFields}
 
 -- what each case of an answer says: the document's number and values
 abbrev pub says : number.Number → Answer ℕ
@@ -61,7 +60,12 @@ cutIn (given x) = 0
 cutIn (refused k) = cond (eqb k 3) 3 0
 cutIn (needs len) = 0
 
--- how many of them lie in the field, and whether it spills; 0 and false where it is refused
+-- how many of them are shown, how many of these lie in the field, and whether there are more; 0 and false where they are refused
+abbrev pub shownIn : Answer rfc.Address → ℕ
+shownIn (given x) = x .shown .len
+shownIn (refused k) = 0
+shownIn (needs len) = 0
+
 abbrev pub ownIn : Answer rfc.Address → ℕ
 ownIn (given x) = x .own
 ownIn (refused k) = 0
@@ -92,21 +96,18 @@ allOf message =
       flags = numberIn (rfc.field rfc.flags message);
       sname = lenIn (rfc.sname message);
       file = lenIn (rfc.file message);
+      «chaddr_own» = ownIn (rfc.chaddr message);
       refused = refusalIn (rfc.field rfc.op message);
       op = numberIn (rfc.field rfc.op message);
       htype = numberIn (rfc.field rfc.htype message);
       hlen = numberIn (rfc.field rfc.hlen message);
       hops = numberIn (rfc.field rfc.hops message);
       «chaddr_refused» = cutIn (rfc.chaddr message);
-      «chaddr_own» = ownIn (rfc.chaddr message);
       «chaddr_spills» = spillsIn (rfc.chaddr message);
       «wrong_magic» = magicIn (rfc.area message);
     }
 
--- Between the functions of the crate: what these say of chaddr, and the fields of a message that this number refuses
-abbrev pub chaddrIn : Answer rfc.Address → ChaddrFields
-chaddrIn answer = record { refused = cutIn answer; own = ownIn answer; spills = spillsIn answer }
-
+-- Between the functions of the crate: the fields of a message that this number refuses
 abbrev pub noneOf : ℕ → Fields
 noneOf k =
     record {
@@ -119,13 +120,13 @@ noneOf k =
       flags = 0;
       sname = 0;
       file = 0;
+      «chaddr_own» = 0;
       refused = k;
       op = 0;
       htype = 0;
       hlen = 0;
       hops = 0;
       «chaddr_refused» = 0;
-      «chaddr_own» = 0;
       «chaddr_spills» = false;
       «wrong_magic» = false;
     }

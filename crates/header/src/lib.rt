@@ -5,7 +5,7 @@ ghost use mathlib.Core.Path.{_≡_};
 ghost use mathlib.Core.Bool.{not};
 ghost use Rattle.rfc.specs.Numbers.{firstRefusal};
 ghost use Rattle.rfc.specs.Header as rfc;
-ghost use Rattle.header.specs.Header.{says, saysPart, saysAddress, saysArea, allOf, noneOf, chaddrIn, Whole, Sized, Inside};
+ghost use Rattle.header.specs.Header.{says, saysPart, saysAddress, saysArea, allOf, noneOf, cutIn, shownIn, Whole, Sized, Inside};
 use limits::LEAST_MESSAGE;
 use limits::MOST_BYTES;
 
@@ -54,6 +54,8 @@ pub struct Fields {
     // How many bytes sname and file have before their first zero.
     pub sname: u16,
     pub file: u16,
+    // How many of chaddr's hlen bytes lie in its field; 0 where chaddr is refused.
+    pub chaddr_own: u16,
     pub refused: u8,
     pub op: u8,
     pub htype: u8,
@@ -61,8 +63,7 @@ pub struct Fields {
     pub hops: u8,
     // 3 where chaddr's hlen bytes are not all there, else 0.
     pub chaddr_refused: u8,
-    // How many of chaddr's bytes lie in its field, and whether hlen is above the 16 that it has; 0 and false where chaddr is refused.
-    pub chaddr_own: u8,
+    // Whether hlen is above the 16 bytes of chaddr's field; not where chaddr is refused.
     pub chaddr_spills: bool,
     pub wrong_magic: bool,
 }
@@ -209,10 +210,11 @@ impl Header {
         if refused != 0 {
             return Chaddr::Refused(refused);
         }
-        let len = message[Header::HLEN] as usize;
-        if message.len() < Header::CHADDR + len {
-            return Chaddr::Refused(3);
+        let cut = chaddr_refusal(message);
+        if cut != 0 {
+            return Chaddr::Refused(cut);
         }
+        let len = message[Header::HLEN] as usize;
         Chaddr::At {
             start: Header::CHADDR,
             len,
@@ -338,6 +340,29 @@ fn wrong_magic(message: &[u8]) -> bool
     decoder::u32_at(head, Header::MAGIC) != decoder::be_u32(99, 130, 83, 99)
 }
 
+// The number that refuses the showing of chaddr alone, 0 for none.
+fn chaddr_refusal(message: &[u8]) -> u8
+    requires { ⌜ Whole (now message) ⌝ }
+    ensures { λ r. ⌜ r ≡ cutIn (rfc.chaddr (now (message .entry))) ⌝ }
+{
+    let end = Header::CHADDR + (message[Header::HLEN] as usize);
+    if message.len() < end {
+        return 3;
+    }
+    0
+}
+
+// How many bytes chaddr shows: none where it is refused.
+fn chaddr_len(message: &[u8]) -> usize
+    requires { ⌜ Whole (now message) ⌝ }
+    ensures { λ r. ⌜ r ≡ shownIn (rfc.chaddr (now (message .entry))) ⌝ }
+{
+    if chaddr_refusal(message) != 0 {
+        return 0;
+    }
+    message[Header::HLEN] as usize
+}
+
 // How many bytes of an address of so many lie in chaddr's field.
 fn own_bytes(len: usize) -> usize
     ensures { λ r. ⌜ r ≡ min len (rfc.chaddrField .len) ⌝ }
@@ -355,33 +380,6 @@ fn spills(len: usize) -> bool
     len > Header::CHADDR_SIZE
 }
 
-// What all fields at once say of chaddr.
-struct ChaddrFields {
-    refused: u8,
-    own: u8,
-    spills: bool,
-}
-
-fn read_chaddr(message: &[u8]) -> ChaddrFields
-    requires { ⌜ Whole (now message) ⌝ }
-    ensures { λ r. ⌜ r ≡ chaddrIn (rfc.chaddr (now (message .entry))) ⌝ }
-{
-    let len = message[Header::HLEN] as usize;
-    let end = Header::CHADDR + len;
-    if message.len() < end {
-        return ChaddrFields {
-            refused: 3,
-            own: 0,
-            spills: false,
-        };
-    }
-    ChaddrFields {
-        refused: 0,
-        own: own_bytes(len) as u8,
-        spills: spills(len),
-    }
-}
-
 // All fields of a message that is not refused. The texts come first: the other reads then stand together, with no loop between them.
 fn read_all(message: &[u8]) -> Fields
     requires { ⌜ Whole (now message) ⌝ }
@@ -390,10 +388,11 @@ fn read_all(message: &[u8]) -> Fields
     let head = &message[0..LEAST_MESSAGE];
     let sname = text_len(message, Header::SNAME, Header::SNAME_SIZE);
     let file = text_len(message, Header::FILE, Header::FILE_SIZE);
-    let chaddr = read_chaddr(message);
+    let shown = chaddr_len(message);
     Fields {
         sname,
         file,
+        chaddr_own: own_bytes(shown) as u16,
         xid: decoder::u32_at(head, Header::XID),
         ciaddr: decoder::u32_at(head, Header::CIADDR),
         yiaddr: decoder::u32_at(head, Header::YIADDR),
@@ -406,9 +405,8 @@ fn read_all(message: &[u8]) -> Fields
         htype: message[Header::HTYPE],
         hlen: message[Header::HLEN],
         hops: message[Header::HOPS],
-        chaddr_refused: chaddr.refused,
-        chaddr_own: chaddr.own,
-        chaddr_spills: chaddr.spills,
+        chaddr_refused: chaddr_refusal(message),
+        chaddr_spills: spills(shown),
         wrong_magic: wrong_magic(message),
     }
 }
@@ -427,13 +425,13 @@ fn refused_all(number: u8) -> Fields
         flags: 0,
         sname: 0,
         file: 0,
+        chaddr_own: 0,
         refused: number,
         op: 0,
         htype: 0,
         hlen: 0,
         hops: 0,
         chaddr_refused: 0,
-        chaddr_own: 0,
         chaddr_spills: false,
         wrong_magic: false,
     }

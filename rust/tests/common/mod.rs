@@ -42,7 +42,7 @@ macro_rules! layouts {
 pub fn layouts() -> Vec<Layout> {
     layouts! {
         Fields {
-            xid ciaddr yiaddr siaddr giaddr secs flags sname file refused op htype hlen hops chaddr_refused chaddr_own
+            xid ciaddr yiaddr siaddr giaddr secs flags sname file chaddr_own refused op htype hlen hops chaddr_refused
             chaddr_spills wrong_magic
         }
         Field { refused number }

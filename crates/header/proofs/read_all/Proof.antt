@@ -3,19 +3,21 @@
 use native.Mathlib.Omega.{arith}
 use Rattle.facts.proofs.Cells.{byte-at}
 use Rattle.rfc.proofs.Header.{sname-text, file-text}
-use Rattle.header.proofs.Readers.{fields, texts, number-is, magic-told}
+use Rattle.header.proofs.Readers.{fields, texts, number-is, own-told, spills-told, magic-told}
 use borrow.Author.Needs.{needs}
 use Rattle.header.proofs.read_all.Statement.{statement}
 use Rattle.header.proofs.read_all.Tie as tie
 
 returns : tie.Need-returns
 returns c =
-    let flags = c .before .before .before .before .before in
+    let cut = c .before .before in
+    let flags = cut .before .before .before .before .before in
     let giaddr = flags .before .before in
     let yiaddr = giaddr .before .before in
     let xid = yiaddr .before .before in
-    let chaddr = xid .before in
-    let file = chaddr .before in
+    let own = xid .before in
+    let shown = own .before in
+    let file = shown .before in
     let s = file .before .before .before .before in
     let m = s .args .message .now in
     let w = s .pre in
@@ -45,7 +47,12 @@ returns c =
       flags .u16-at2 .ensures,
       file .before .text-len .ensures,
       file .text-len2 .ensures,
-      chaddr .read-chaddr .ensures,
+      shown .chaddr-len .ensures,
+      own .own-bytes .ensures,
+      own-told m w,
+      cut .chaddr-refusal .ensures,
+      c .before .spills .ensures,
+      spills-told m w,
       c .wrong-magic .ensures,
     )
 
@@ -60,6 +67,8 @@ read-all-spec =
     (λ c κs. search needs)
     (λ c κs. search needs)
     (λ c κs. search needs)
+    (λ c. search needs)
+    (λ c κs. search needs)
     (λ c κs. search needs)
     (λ c κs. search needs)
     (λ c κs. search needs)
@@ -70,5 +79,7 @@ read-all-spec =
     (λ c. search needs)
     (λ c. search needs)
     (λ c. search needs)
+    (λ c κs. search needs)
+    (λ c κs. search needs)
     (λ c κs. search needs)
     returns)

@@ -4,7 +4,7 @@ use mathlib.Core.Path.{sym}
 use native.Mathlib.Omega.{arith}
 use Rattle.rfc.proofs.Header.{chaddr-refused}
 use Rattle.header.specs.Header.{Whole}
-use Rattle.header.proofs.Readers.{refused-by, whole, chaddr-past, chaddr-there}
+use Rattle.header.proofs.Readers.{refused-by, whole, cut-refused, cut-none}
 use borrow.Author.Needs.{needs}
 use Rattle.header.proofs.Header.chaddr.Statement.{statement}
 use Rattle.header.proofs.Header.chaddr.Tie as tie
@@ -16,22 +16,24 @@ there c = whole _ (c .before .refusal-of .ensures) (c .if1 .left)
 returns : tie.Need-returns
 returns c = sym (chaddr-refused _ (refused-by _ (c .before .refusal-of .ensures) (c .if1 .taken)))
 
+chaddr-refusal-requires : tie.Need-chaddr-refusal-requires
+chaddr-refusal-requires c κs = there c
+
+returns-2 : tie.Need-returns-2
+returns-2 c = sym (cut-refused _ (there (c .before .before)) _ (c .before .chaddr-refusal .ensures) (c .if2 .taken))
+
 shared-slice-read-len : tie.Need-shared-slice-read-len
-shared-slice-read-len c = omega (arith, there (c .before) .least)
+shared-slice-read-len c = omega (arith, there (c .before .before .before) .least)
 
 cast-len : tie.Need-cast-len
 cast-len c = omega (arith, c .shared-slice-known2 .given 2)
 
-add-if2 : tie.Need-add-if2
-add-if2 c = omega (arith, c .shared-slice-known2 .given 2)
-
-returns-2 : tie.Need-returns-2
-returns-2 c = sym (chaddr-past _ (there (c .before .before)) (omega arith))
-
 returns-3 : tie.Need-returns-3
 returns-3 c =
-    let length = c .before .before .before in
-    rw (c .before .own-bytes .ensures, c .spills .ensures) (sym (chaddr-there _ (there (length .before)) (omega arith)))
+    let all = c .before .before .before in
+    let cut = all .before in
+    rw (c .before .own-bytes .ensures, c .spills .ensures)
+    (sym (cut-none _ (there (cut .before)) _ (cut .chaddr-refusal .ensures) (all .if2 .left)))
 
 pub chaddr-spec : {M : Type 1} → statement M
 chaddr-spec =
@@ -39,10 +41,10 @@ chaddr-spec =
     (tie.spec
     (λ c κs. search needs)
     returns
+    chaddr-refusal-requires
+    returns-2
     shared-slice-read-len
     cast-len
-    add-if2
-    returns-2
     (λ c κs. search needs)
     (λ c κs. search needs)
     returns-3)
