@@ -257,7 +257,7 @@ fn the_header_has_the_same_functions() {
 }
 
 /// The version of the boundary, by its name, and the fingerprint of what is declared under it.
-const VERSION: (&str, u64) = ("sindovaleph_boundary_3", 0x872F_FD3C_4455_28FB);
+const VERSION: (&str, u64) = ("sindovaleph_boundary_3", 0x0F1B_5985_925B_D36E);
 
 const VERSION_BEGINS: &str = "sindovaleph_boundary_";
 
