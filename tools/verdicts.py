@@ -35,7 +35,7 @@ MISFITS = (
     # The answers to the needs are given in another order, or one is missing or too many.
     re.compile(r"expected type `tie\.Need"),
     # What is known is of another form, so that there is nothing to rewrite.
-    re.compile(r"`rw`: no (?:occurrence of the path's (?:left|right) endpoint in the goal|part of the hypothesis's type)"),
+    re.compile(r"`rw`: no (?:occurrence of the path's (?:left|right) endpoint in the (?:goal|hypothesis's type)|part of the hypothesis's type)"),
 )
 
 # A statement about the changed code does not hold, or nothing proves it.
