@@ -70,7 +70,7 @@ fn a_match_needs_a_case_for_what_may_come() {
     assert_eq!(Message::new(&[0; 240]).unwrap().overload().map(number_of), Ok(0));
 }
 
-/// What has two such functions, it cannot be told which is meant: that is a type that becomes another by itself.
+/// A type that becomes another by itself has this function twice, and the compiler cannot tell which is meant.
 trait IsNoPointer<Which> {
     fn seen() {}
 }

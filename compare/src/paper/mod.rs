@@ -1,5 +1,5 @@
-//! The rules of document 01, and those of tickets 1, 3 and 4 of document 02, written plainly: what each call has to answer, and what it leaves in
-//! lent memory. Nothing here calls the library or the crate; only the shapes of the answers are the boundary's.
+//! The rules of document 01, and those of tickets 1, 3 and 4 of document 02, written plainly: what each call has to answer, and what it
+//! leaves in lent memory. Nothing here calls the library or the crate; only the shapes of the answers are the boundary's.
 
 mod aggregate;
 mod header;

@@ -55,7 +55,9 @@ struct SafeAccessors(Vec<u8>);
 impl Side for SafeAccessors {
     fn run(&mut self, sink: &mut impl Sink) {
         let Ok(message) = sindovaleph::Message::new(black_box(&self.0)) else { return };
-        [message.opcode(), message.htype(), message.hlen(), message.hops()].into_iter().for_each(|byte| sink.number(byte));
+        [message.opcode(), message.htype(), message.hlen(), message.hops()]
+            .into_iter()
+            .for_each(|byte| sink.number(byte));
         sink.number(message.xid());
         [message.secs(), message.flags()].into_iter().for_each(|number| sink.number(number));
         let addresses = [message.ciaddr(), message.yiaddr(), message.siaddr(), message.giaddr()];
