@@ -49,15 +49,15 @@ abbrev pub line2 : List ℕ
 line2 = 99 ∷ 104 ∷ 97 ∷ 100 ∷ 100 ∷ 114 ∷ 32 ∷ 50 ∷ 32 ∷ 48 ∷ 32 ∷ 48 ∷ 32 ∷ 48 ∷ 32 ∷ 48 ∷ 32 ∷ 49 ∷ 10 ∷ []
 
 -- the same message with hlen 17 and "b" in sname
-abbrev pub spilled : List ℕ
-spilled =
+abbrev pub spilling : List ℕ
+spilling =
     (2 ∷ 1 ∷ 17 ∷ 0 ∷ 0 ∷ 0 ∷ 0 ∷ 42 ∷ [])
     ++ replicate 20 0 ++ (2 ∷ 0 ∷ 0 ∷ 0 ∷ 0 ∷ 1 ∷ []) ++ replicate 10 0 ++ (98 ∷ []) ++ replicate 191 0
     ++ magic ++ (53 ∷ 1 ∷ 5 ∷ 255 ∷ [])
 
 -- chaddr 2 0 0 0 0 1 0 0 0 0 0 0 0 0 0 0 98 spill
-abbrev pub spilled2 : List ℕ
-spilled2 =
+abbrev pub spilling2 : List ℕ
+spilling2 =
     99 ∷ 104 ∷ 97 ∷ 100 ∷ 100 ∷ 114 ∷ 32 ∷ 50 ∷ 32 ∷ 48 ∷ 32 ∷ 48 ∷ 32 ∷ 48 ∷ 32 ∷ 48 ∷ 32 ∷ 49 ∷ 32 ∷ 48 ∷ 32 ∷ 48 ∷ 32 ∷ 48 ∷ 32 ∷ 48
     ∷ 32 ∷ 48 ∷ 32 ∷ 48 ∷ 32 ∷ 48 ∷ 32 ∷ 48 ∷ 32 ∷ 48 ∷ 32 ∷ 48 ∷ 32 ∷ 57 ∷ 56 ∷ 32 ∷ 115 ∷ 112 ∷ 105 ∷ 108 ∷ 108 ∷ 10 ∷ []
 
@@ -158,7 +158,7 @@ OfListing =
     × (spillText true ≡ Words.spill ++ 10 ∷ [])
     × (spillText false ≡ 10 ∷ [])
     × (chaddrLine reply ≡ line2)
-    × (chaddrLine spilled ≡ spilled2)
+    × (chaddrLine spilling ≡ spilling2)
     × (optionLine 53 (5 ∷ []) 1 ≡ line3)
     × (stopWord end ≡ Words.stopEnd)
     × (stopLine end 4 ≡ line4)

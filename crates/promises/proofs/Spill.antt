@@ -1,12 +1,12 @@
 -- What is told of the hardware address is so, by the laws of `rfc`: an address that is answered is that of hlen.
 -- Assumes nothing.
-use mathlib.Core.Path.{_≡_, sym, ap, subst, _∙_, refl}
-use Prim.Native.Nat.{ℕ, _≤_, _<_, min}
+use mathlib.Core.Path.{_≡_, refl, sym, subst, _∙_}
+use Prim.Native.Nat.{ℕ, _≤_, _<_}
 use native.Mathlib.Omega.{arith}
 use mathlib.Core.Bool.{true, false}
 use mathlib.Core.List.{List}
 use borrow.Author.Tests.{ltb-true, ltb-false}
-use Rattle.rfc.specs.Header.{Address, address, hlenOf, spills}
+use Rattle.rfc.specs.Header.{address, hlenOf, spills}
 use Rattle.rfc.proofs.Header.{given-chaddr, spills-read, address-bytes}
 use Rattle.promises.specs.Spill.{AddressTold, SpillTold}
 

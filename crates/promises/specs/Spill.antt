@@ -8,8 +8,9 @@ use lib.ListN.{take, drop}
 use Rattle.rfc.specs.Numbers.{given}
 use Rattle.rfc.specs.Header.{part, bytesOf, chaddrField, snameField, hlenOf, Address, chaddr}
 
+-- what an answer says of the address of a message is so
 pub record AddressTold (message : List ℕ) (x : Address) : Type 0 where
-  -- all hlen bytes are shown, as before
+  -- the bytes shown are document 01's: hlen of them
   pub shows : x .shown ≡ part (chaddrField .start) (hlenOf message)
   -- "whether hlen is above 16"
   pub above : x .spills ≡ true → 16 < hlenOf message
