@@ -42,39 +42,35 @@ refusalIn (given a) = 0
 refusalIn (refused k) = k
 refusalIn (needs len) = 5
 
--- the number that was asked for, 0 where it is refused
+-- something of what was asked for, or something else where that is refused
+abbrev pub ofGiven : {A B : Type 0} → (A → B) → B → Answer A → B
+ofGiven f other (given a) = f a
+ofGiven f other (refused k) = other
+ofGiven f other (needs len) = other
+
+-- the number that was asked for
 abbrev pub numberIn : Answer ℕ → ℕ
-numberIn (given n) = n
-numberIn (refused k) = 0
-numberIn (needs len) = 0
+numberIn = ofGiven (λ (n : ℕ). n) 0
 
--- how many bytes are shown, 0 where they are refused
+-- how many bytes are shown
 abbrev pub lenIn : Answer rfc.Part → ℕ
-lenIn (given p) = p .len
-lenIn (refused k) = 0
-lenIn (needs len) = 0
+lenIn = ofGiven (λ (p : rfc.Part). p .len) 0
 
--- 3 where the address's bytes are not all there, else 0
+-- of the address: how many bytes are shown, how many of these lie in its field, and whether there are more
+abbrev pub shownIn : Answer rfc.Address → ℕ
+shownIn = ofGiven (λ (x : rfc.Address). x .shown .len) 0
+
+abbrev pub ownIn : Answer rfc.Address → ℕ
+ownIn = ofGiven (λ (x : rfc.Address). x .own) 0
+
+abbrev pub spillsIn : Answer rfc.Address → Bool
+spillsIn = ofGiven (λ (x : rfc.Address). x .spills) false
+
+-- 3 where its bytes are not all there, else 0
 abbrev pub cutIn : Answer rfc.Address → ℕ
 cutIn (given x) = 0
 cutIn (refused k) = cond (eqb k 3) 3 0
 cutIn (needs len) = 0
-
--- how many of them are shown, how many of these lie in the field, and whether there are more; 0 and false where they are refused
-abbrev pub shownIn : Answer rfc.Address → ℕ
-shownIn (given x) = x .shown .len
-shownIn (refused k) = 0
-shownIn (needs len) = 0
-
-abbrev pub ownIn : Answer rfc.Address → ℕ
-ownIn (given x) = x .own
-ownIn (refused k) = 0
-ownIn (needs len) = 0
-
-abbrev pub spillsIn : Answer rfc.Address → Bool
-spillsIn (given x) = x .spills
-spillsIn (refused k) = false
-spillsIn (needs len) = false
 
 -- whether the magic is another
 abbrev pub magicIn : Answer rfc.Area → Bool
