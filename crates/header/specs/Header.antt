@@ -56,10 +56,7 @@ numberIn = ofGiven (λ (n : ℕ). n) 0
 abbrev pub lenIn : Answer rfc.Part → ℕ
 lenIn = ofGiven (λ (p : rfc.Part). p .len) 0
 
--- of the address: how many bytes are shown, how many of these lie in its field, and whether there are more
-abbrev pub shownIn : Answer rfc.Address → ℕ
-shownIn = ofGiven (λ (x : rfc.Address). x .shown .len) 0
-
+-- of the address: how many bytes lie in its field, and whether there are more
 abbrev pub ownIn : Answer rfc.Address → ℕ
 ownIn = ofGiven (λ (x : rfc.Address). x .own) 0
 
@@ -103,7 +100,10 @@ allOf message =
       «wrong_magic» = magicIn (rfc.area message);
     }
 
--- Between the functions of the crate: the fields of a message that this number refuses
+-- Between the functions of the crate: how many bytes of the address are shown, and the fields of a message that this number refuses
+abbrev pub shownIn : Answer rfc.Address → ℕ
+shownIn = ofGiven (λ (x : rfc.Address). x .shown .len) 0
+
 abbrev pub noneOf : ℕ → Fields
 noneOf k =
     record {
