@@ -3,3 +3,4 @@ pub mod Pieces
 pub mod Ranges
 pub mod BigEndian
 pub mod Distinct
+pub mod Each

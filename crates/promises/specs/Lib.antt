@@ -10,3 +10,4 @@ pub mod Spill
 pub mod Worked
 pub mod Aggregate
 pub mod Overloaded
+pub mod Stream

@@ -32,3 +32,6 @@ pub mod Naming
 pub mod Standing
 pub mod Overload
 pub mod Aggregate
+pub mod Stream
+pub mod Cuts
+pub mod Frames

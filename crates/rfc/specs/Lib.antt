@@ -11,3 +11,4 @@ pub mod Lists
 pub mod Portions
 pub mod Aggregate
 pub mod Modes
+pub mod Stream
