@@ -1,11 +1,13 @@
 -- What a call of the stream's reader answers and leaves, over the definitions of `Rattle.rfc.specs.Stream`.
 -- Assumes nothing.
 use Prim.Native.Nat.{ℕ}
+use mathlib.Core.Bool.{cond}
+use lib.Dec.{ltb}
 use mathlib.Core.Path.{_≡_}
 use mathlib.Core.List.{List}
 use mathlib.Core.Option.{Option, none, some}
 use lib.ListN.{length}
-use Rattle.rfc.specs.Numbers.{Answer, given, refused, needs}
+use Rattle.rfc.specs.Numbers.{Answer, given, refused, needs, leastMessage}
 use Rattle.rfc.specs.Stream as rfc
 use Rattle.stream.specs.declared.Stream.{Stream}
 use Rattle.stream.specs.declared.Stream.the-variants.{Between, Sizing, Filling, Shut}
@@ -41,3 +43,7 @@ takenOf frame used stream = record { frame = frame; used = used; stream = stream
 pub record Took (t : rfc.Taken) (buffer : List ℕ) (r : Taken) : Type 0 where
   pub told : r ≡ takenOf (frameOf (t .handed)) (t .used) (streamOf (t .stands))
   pub left : buffer ≡ t .buffer
+
+-- Between the functions of the crate: the answer of a call that handed out a whole frame of this size
+abbrev pub handedOver : ℕ → ℕ → Taken
+handedOver size used = takenOf (cond (ltb size leastMessage) (Refused 1) (Message size)) used Between

@@ -4,7 +4,7 @@ ghost use Prim.Native.Nat.{_≤_};
 ghost use mathlib.Core.Path.{_≡_};
 ghost use lib.ListN.{length, drop};
 ghost use Rattle.rfc.specs.Stream as rfc;
-ghost use Rattle.stream.specs.Streamed.{standsAt, takenOf, Took};
+ghost use Rattle.stream.specs.Streamed.{standsAt, takenOf, handedOver, Took};
 ghost use Rattle.stream.specs.declared.Stream.the-variants.{Shut};
 ghost use Rattle.stream.specs.declared.Frame.the-variants.{Refused};
 use limits::LEAST_MESSAGE;
