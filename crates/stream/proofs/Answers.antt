@@ -20,7 +20,7 @@ use Rattle.rfc.proofs.Stream.{frame-short, frame-long, gather-large, gather-who
 use Rattle.encoder.specs.Written.{Wrote}
 use Rattle.encoder.specs.declared.Written.{Written}
 use Rattle.encoder.proofs.Answers.{put-over}
-use Rattle.stream.specs.Streamed.{standsAt, streamOf, frameOf, takenOf, handedOver, Took}
+use Rattle.stream.specs.Streamed.{standsAt, frameOf, takenOf, handedOver, answerOf, Took}
 use Rattle.stream.specs.declared.Stream.{Stream}
 use Rattle.stream.specs.declared.Stream.the-variants.{Between, Sizing, Filling, Shut}
 use Rattle.stream.specs.declared.Frame.the-variants.{More, Message, Refused}
@@ -28,7 +28,7 @@ use Rattle.stream.specs.declared.Taken.{Taken}
 
 -- the same of what is equal
 same : {t t′ : rfc.Taken} {buffer buffer′ : List ℕ} {r : Taken} → t ≡ t′ → buffer ≡ buffer′ → Took t′ buffer′ r → Took t buffer r
-same e b w = record { told = w .told ∙ ap (λ (t : rfc.Taken). takenOf (frameOf (t .handed)) (t .used) (streamOf (t .stands))) (sym e); left = b ∙ w .left ∙ ap (λ (t : rfc.Taken). t .buffer) (sym e) }
+same e b w = record { told = w .told ∙ ap answerOf (sym e); left = b ∙ w .left ∙ ap (λ (t : rfc.Taken). t .buffer) (sym e) }
 
 -- a whole frame, at the buffer's front
 hands-out : (used size : ℕ) (buffer : List ℕ) → size ≤ length buffer → Took (rfc.handOut used size buffer) buffer (handedOver size used)

@@ -39,9 +39,13 @@ frameOf (some (needs len)) = Refused 5
 abbrev pub takenOf : Frame → ℕ → Stream → Taken
 takenOf frame used stream = record { frame = frame; used = used; stream = stream }
 
+-- what a call answers
+abbrev pub answerOf : rfc.Taken → Taken
+answerOf t = takenOf (frameOf (t .handed)) (t .used) (streamOf (t .stands))
+
 -- a call answers r and leaves the buffer so
 pub record Took (t : rfc.Taken) (buffer : List ℕ) (r : Taken) : Type 0 where
-  pub told : r ≡ takenOf (frameOf (t .handed)) (t .used) (streamOf (t .stands))
+  pub told : r ≡ answerOf t
   pub left : buffer ≡ t .buffer
 
 -- Between the functions of the crate: the answer of a call that handed out a whole frame of this size
