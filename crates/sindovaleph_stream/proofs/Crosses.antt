@@ -7,14 +7,12 @@ use Rattle.rfc.specs.Stream as rfc
 use Rattle.stream.specs.Streamed.{standsAt, answerOf, Took}
 use Rattle.stream.specs.declared.Stream as state
 use Rattle.stream.specs.declared.Taken.{Taken}
-use Rattle.sindovaleph_stream.specs.Received.{stateOf, receivedOf, Receives}
-use Rattle.sindovaleph_stream.specs.declared.Stream.{Stream}
+use Rattle.sindovaleph_stream.specs.Received.{receivedOf, Receives}
 use Rattle.sindovaleph_stream.specs.declared.Received.{Received}
 
-pub crosses : (buffer chunk : List ℕ) {buffer′ : List ℕ} {s : state.Stream} {t : Taken} {r : Received} (stream : Stream) → s ≡ stateOf stream
-    → Took (rfc.receive (standsAt s) buffer chunk) buffer′ t → r ≡ receivedOf t
-    → Receives (rfc.receive (standsAt (stateOf stream)) buffer chunk) buffer′ r
-crosses buffer chunk stream e w f =
+pub crosses : (buffer chunk : List ℕ) {buffer′ : List ℕ} {s s′ : state.Stream} {t : Taken} {r : Received} → s ≡ s′
+    → Took (rfc.receive (standsAt s) buffer chunk) buffer′ t → r ≡ receivedOf t → Receives (rfc.receive (standsAt s′) buffer chunk) buffer′ r
+crosses buffer chunk e w f =
     let same = ap (λ (x : state.Stream). rfc.receive (standsAt x) buffer chunk) e in
     record {
       told = f ∙ ap receivedOf (w .told ∙ ap answerOf same);

@@ -8,7 +8,7 @@ use Rattle.sindovaleph_stream.proofs.sindovaleph_receive.Tie as tie
 returns : tie.Need-returns
 returns c =
     let called = c .before .before .before in
-    crosses _ _ _ (called .before .before .state-of .ensures) (called .receive .ensures) (c .received-of .ensures)
+    crosses _ _ (called .before .before .state-of .ensures) (called .receive .ensures) (c .received-of .ensures)
 
 pub sindovaleph-receive-spec : {M : Type 1} → statement M
 sindovaleph-receive-spec =
