@@ -9,7 +9,8 @@
  *
  * In every answer `refused` is the number of a refusal, 0 for none. Where one is given, nothing that was lent is
  * changed, a place is the one that was given, and all else is 0 but for two numbers: `len` of a step that is refused
- * with 5 says how many bytes are needed, and `rows` of a write of rows says which row is refused.
+ * with 5 says how many bytes are needed, and `rows` of a write of rows says which row is refused. The one exception is
+ * sindovaleph_receive, whose refusals move the stream.
  */
 #ifndef SINDOVALEPH_H
 #define SINDOVALEPH_H
@@ -24,7 +25,7 @@ extern "C" {
 
 /* The version of the boundary. Its name carries the number, and each file that includes this header names it, where
    the compiler can be told so: a library of another version does not link. */
-#define SINDOVALEPH_BOUNDARY sindovaleph_boundary_3
+#define SINDOVALEPH_BOUNDARY sindovaleph_boundary_4
 
 /* The number of the version. */
 uint32_t SINDOVALEPH_BOUNDARY(void);
@@ -54,7 +55,8 @@ enum {
     SINDOVALEPH_REFUSED_ODD_PAIRS = 13,        /* a list of pairs has an odd number of addresses */
     SINDOVALEPH_REFUSED_UNCLEAR_YES_NO = 14,   /* strict reading: a yes/no byte is neither 0 nor 1 */
     SINDOVALEPH_REFUSED_FIELD_CUT = 15,        /* a field that holds options is cut */
-    SINDOVALEPH_REFUSED_UNCLEAR_OVERLOAD = 16  /* option 52 has more than one part or is not one byte of 1 to 3 */
+    SINDOVALEPH_REFUSED_UNCLEAR_OVERLOAD = 16, /* option 52 has more than one part or is not one byte of 1 to 3 */
+    SINDOVALEPH_REFUSED_SIZE_ABOVE_BUFFER = 17 /* a stream: the size of a frame is more than the buffer has */
 };
 
 /* Why a walk stopped. A stop is no refusal: the place moves, and a further call goes on from there. */
@@ -84,6 +86,14 @@ enum {
     SINDOVALEPH_KIND_MESSAGE_TYPE = 13,
     SINDOVALEPH_KIND_THREE_BYTES = 14,
     SINDOVALEPH_KIND_FLAG = 15
+};
+
+/* Where a stream of messages stands. */
+enum {
+    SINDOVALEPH_STREAM_BETWEEN = 0, /* the next byte begins a size: a connection that ends here has ended cleanly */
+    SINDOVALEPH_STREAM_SIZING = 1,  /* the first byte of a size was read */
+    SINDOVALEPH_STREAM_FILLING = 2, /* a frame is gathered */
+    SINDOVALEPH_STREAM_SHUT = 3     /* refused, until reset */
 };
 
 /* All fields of the fixed header. */
@@ -208,6 +218,24 @@ typedef struct {
     uint32_t gateway;
 } SindovalephRoute;
 
+/* Where a stream of messages stands, kept by the caller between two calls. Numbers that `state` does not name are 0. A
+   fresh stream is all 0, and so is a reset: `SindovalephStream stream = {0};`. */
+typedef struct {
+    uint8_t state;
+    uint8_t high;    /* sizing: the first byte of the size */
+    uint16_t size;   /* filling: how many bytes the frame has */
+    uint16_t filled; /* filling: how many of them stand in the buffer */
+} SindovalephStream;
+
+/* What a call over a chunk of a stream answers. A refusal moves the stream: behind 1 the next byte begins a size, and the
+   frame's bytes stand at the front of the buffer; 17 leaves the buffer as it was and shuts the stream. */
+typedef struct {
+    uint8_t refused;
+    size_t len;  /* a message is handed out, the first `len` bytes of the buffer; 0 where none is */
+    size_t used; /* how many bytes of the chunk were read */
+    SindovalephStream stream;
+} SindovalephReceived;
+
 /* The header, the walk, options as bytes. */
 
 /* All fields of the header. */
@@ -251,6 +279,14 @@ SindovalephStep sindovaleph_entry(const uint8_t *message, size_t message_len, si
 /* All options in that order, a SindovalephRow for each, whose place is a place of the message. A message has at most 254
    codes. */
 SindovalephEntries sindovaleph_entries(const uint8_t *message, size_t message_len, size_t *rows, size_t numbers);
+
+/* Messages out of a stream over TCP, each behind its size in two bytes, the higher first (RFC 6926, section 6.1). */
+
+/* Reads the chunk up to the first frame that it completes, or to its end; the next call goes on behind what was used, with
+   the same buffer. A frame below 240 bytes is refused with 1 at its last byte, a size above `buffer_len` with 17. A stream
+   that is shut is refused with 17 until it is reset, and uses nothing. */
+SindovalephReceived sindovaleph_receive(SindovalephStream stream, uint8_t *buffer, size_t buffer_len,
+                                        const uint8_t *chunk, size_t chunk_len);
 
 /* All options of an area in one call. */
 

@@ -4,7 +4,8 @@
 //!
 //! In every answer `refused` is the number of a refusal ([`Refusal`](crate::Refusal)), 0 for none. Where one is given,
 //! nothing that was lent is changed, a place is the one that was given, and all else is 0 but for two numbers: `len` of
-//! a [`Step`] that is refused with 5, and `rows` of [`WrittenRows`].
+//! a [`Step`] that is refused with 5, and `rows` of [`WrittenRows`]. The one exception is [`receive`], whose refusals
+//! move the stream ([`Received`]).
 
 /// All fields of the fixed header.
 #[repr(C)]
@@ -204,6 +205,48 @@ pub struct WrittenRows {
     pub place: usize,
 }
 
+/// Where a stream of messages stands. Numbers that `state` does not name are 0. A fresh stream is all 0, and so is one
+/// that was reset.
+#[repr(C)]
+#[derive(Clone, Copy, Debug, Default, PartialEq, Eq)]
+pub struct Stream {
+    /// [`BETWEEN`](Stream::BETWEEN) two frames, [`SIZING`](Stream::SIZING), [`FILLING`](Stream::FILLING); any other is a
+    /// refused stream, answered as [`SHUT`](Stream::SHUT).
+    pub state: u8,
+    /// The first byte of a size, where the second is yet to come.
+    pub high: u8,
+    /// The size of the frame that is gathered.
+    pub size: u16,
+    /// How many of its bytes stand in the buffer.
+    pub filled: u16,
+}
+
+impl Stream {
+    /// The next byte begins a size.
+    pub const BETWEEN: u8 = 0;
+    /// The first byte of a size was read.
+    pub const SIZING: u8 = 1;
+    /// A frame is gathered.
+    pub const FILLING: u8 = 2;
+    /// Refused, until reset.
+    pub const SHUT: u8 = 3;
+}
+
+/// What a call over a chunk of a stream answers. A refusal moves the stream here, and 1 leaves the frame's bytes at the
+/// front of the buffer; 17 leaves the buffer as it was.
+#[repr(C)]
+#[derive(Clone, Copy, Debug, PartialEq, Eq)]
+pub struct Received {
+    /// The refusal, 0 for none.
+    pub refused: u8,
+    /// How many bytes the message has that is handed out, which are the buffer's first; 0 where none is.
+    pub len: usize,
+    /// How many bytes of the chunk were read.
+    pub used: usize,
+    /// Where the stream stands.
+    pub stream: Stream,
+}
+
 /// A row of the table of classless routes.
 #[repr(C)]
 #[derive(Clone, Copy, PartialEq, Eq)]
@@ -220,7 +263,7 @@ mod boundary {
     use super::*;
 
     unsafe extern "C" {
-        pub safe fn sindovaleph_boundary_3() -> u32;
+        pub safe fn sindovaleph_boundary_4() -> u32;
         pub fn sindovaleph_header(message: *const u8, message_len: usize) -> Fields;
         pub fn sindovaleph_xid(message: *const u8, message_len: usize) -> Field;
         pub safe fn sindovaleph_kind_of(code: u8) -> u8;
@@ -244,6 +287,13 @@ mod boundary {
         ) -> Step;
         pub fn sindovaleph_entries(message: *const u8, message_len: usize, rows: *mut usize, numbers: usize)
         -> Entries;
+        pub fn sindovaleph_receive(
+            stream: Stream,
+            buffer: *mut u8,
+            buffer_len: usize,
+            chunk: *const u8,
+            chunk_len: usize,
+        ) -> Received;
         pub fn sindovaleph_list(
             area: *const u8,
             area_len: usize,
@@ -372,7 +422,7 @@ use boundary::*;
 // The version of the boundary that is declared here: every program with this crate in it names it, so that it does not
 // link with a library of another version.
 #[used]
-static BOUNDARY: extern "C" fn() -> u32 = sindovaleph_boundary_3;
+static BOUNDARY: extern "C" fn() -> u32 = sindovaleph_boundary_4;
 
 // SAFETY, of every call below: the proved side takes any numbers and any bytes, so a call needs valid slices and
 // nothing else. References are that, with their own lengths, for as long as the call lasts; the proved side keeps none
@@ -512,6 +562,14 @@ pub fn entry(message: &[u8], index: usize, join: &mut [u8]) -> Step {
 pub fn entries(message: &[u8], rows: &mut [Row]) -> Entries {
     let count = numbers(rows);
     unsafe { sindovaleph_entries(message.as_ptr(), message.len(), rows.as_mut_ptr().cast(), count) }
+}
+
+/// Reads the chunk up to the first frame that it completes, or to its end. The next call goes on behind what was used,
+/// with the same buffer.
+#[inline]
+pub fn receive(stream: Stream, buffer: &mut [u8], chunk: &[u8]) -> Received {
+    // SAFETY: slices are valid.
+    unsafe { sindovaleph_receive(stream, buffer.as_mut_ptr(), buffer.len(), chunk.as_ptr(), chunk.len()) }
 }
 
 /// What the value of an option reads as, plainly or strictly.

@@ -3,7 +3,7 @@
 //! anything.
 //!
 //! The work is done by a library in Rattle, a port of the crate dhcproto 0.15.0 whose every function is proved against
-//! definitions from RFC 2131, 2132, 3396, 3442 and 3629. This crate gives its numbers their types, in the shape of
+//! definitions from RFC 2131, 2132, 3396, 3442, 3629 and 6926. This crate gives its numbers their types, in the shape of
 //! `dhcproto::v4::borrowed`.
 //!
 //! # Reading a message
@@ -142,6 +142,12 @@
 //! A walk goes over the options field once. `find` goes over the fields a few times, and `entries` does so for each code.
 //! [`Message::list_entries`] goes over them twice, however many codes there are, and joins nothing.
 //!
+//! # Messages over TCP
+//!
+//! Bulk lease query (RFC 6926) sends messages as a stream, each behind a size of two bytes. [`Stream`] takes it in
+//! whatever chunks it comes, gathers a frame in a lent buffer, and hands out each message at its last byte. It knows a
+//! clean end from one within a frame. `examples/collect.rs` reads a socket with it.
+//!
 //! # Writing options
 //!
 //! ```
@@ -262,6 +268,7 @@ pub mod options;
 pub mod refusal;
 pub mod rows;
 mod shown;
+pub mod stream;
 pub mod value;
 pub mod writer;
 
@@ -273,5 +280,6 @@ pub use names::{codes, flags, message_types, ops};
 pub use options::{Ending, Opt, Options, Stop};
 pub use refusal::{NoSuchNumber, OptRefused, Refusal, RowRefused};
 pub use rows::{Listed, ReadRow, Row, list, read_list, read_list_strict};
+pub use stream::{Frames, Stream};
 pub use value::{Element, Elements, Kind, List, NodeType, Value, kind_of, read, read_strict};
 pub use writer::{Route, WriteRow, Writer};

@@ -3,9 +3,10 @@
 use core::fmt;
 
 numbered! {
-    /// Why something is refused, by its number. A refusal changes nothing that was lent, and no place moves.
+    /// Why something is refused, by its number. A refusal changes nothing that was lent, and no place moves; but those
+    /// of a [`Stream`](crate::Stream) move it on, since its bytes do not come twice.
     pub enum Refusal {
-        /// The message has fewer than 240 bytes.
+        /// The message has fewer than 240 bytes; of a stream, a frame has.
         MessageTooShort = 1,
         /// A message, an area, a room or a value to be read has more than 65,535 bytes.
         TooLong = 2,
@@ -38,6 +39,8 @@ numbered! {
         FieldCut = 15,
         /// RFC 3396's reading: option 52 of the options field has more than one part, or is not one byte of 1 to 3.
         UnclearOverload = 16,
+        /// A stream: the size of a frame is more than the buffer has.
+        SizeAboveBuffer = 17,
     }
 }
 
@@ -60,6 +63,7 @@ impl fmt::Display for Refusal {
             Refusal::UnclearYesNo => "the yes/no byte is neither 0 nor 1",
             Refusal::FieldCut => "a field that holds options is cut",
             Refusal::UnclearOverload => "option 52 has more than one part or is not one byte of 1 to 3",
+            Refusal::SizeAboveBuffer => "the size of a frame is more than the buffer has",
         })
     }
 }
@@ -129,11 +133,11 @@ impl From<OptRefused> for Refusal {
     }
 }
 
-/// What a number that crossed the boundary says: 0 is no refusal, and none is above 16.
+/// What a number that crossed the boundary says: 0 is no refusal, and none is above 17.
 #[inline]
 pub(crate) fn checked(number: u8) -> Result<(), Refusal> {
     match number {
         0 => Ok(()),
-        _ => Err(Refusal::from_number(number).unwrap_or(Refusal::UnclearOverload)),
+        _ => Err(Refusal::from_number(number).unwrap_or(Refusal::SizeAboveBuffer)),
     }
 }

@@ -4,7 +4,8 @@ use Rattle.facts.specs.BigEndian.{numberAt}
 use mathlib.Core.Path.{refl}
 use mathlib.Core.List.{[], _∷_, flatten}
 use native.Mathlib.Omega.{arith}
-use lib.Dec.{lit<}
+use lib.Dec.{lit<, lit≤}
+use lib.ListN.{replicate}
 use Rattle.facts.specs.Distinct.{without}
 use Rattle.facts.specs.Over.{over}
 use Rattle.facts.specs.Pieces.{piecesIn, pieces}
@@ -22,8 +23,9 @@ use Rattle.rfc.specs.Lists.{Good, encodeAll, does, writeAll, onward, listIn, li
 use Rattle.rfc.specs.Portions.{behindCode, nextPortion, ahead, goesOn, portionsIn, portions, isCut, partsIn, ofCode, joinedValue}
 use Rattle.rfc.specs.Aggregate.{fieldsOf, optionsRead, overloads, unclearOverload, overload, namesFile, namesSname, readNamed, fileRead, snameRead, fieldChecks, aggregate, codesOf, behindLast, optionFrom, optionOf, aggregateChecks, overloadOf, findChecks, find, entry, optionsFrom, entries}
 use Rattle.rfc.specs.Modes.{valuesIn, atContinuation, atEnd}
+use Rattle.rfc.specs.Stream.{Sendable, tooLarge, frame, handing, framesIn, frames, handOut, gather, endSize, startSize, receive, isShut, drainIn, drain, drainAll}
 use Rattle.promises.specs.Order.{follows}
-use Rattle.promises.specs.Worked.{abc, OfGeneral, OfNumbers, OfHeader, OfWalk, OfKinds, OfText, OfValues, OfWriting, OfTyped, OfRoutes, OfLists, OfPortions, OfOverload, OfAggregate}
+use Rattle.promises.specs.Worked.{abc, least, OfGeneral, OfNumbers, OfHeader, OfWalk, OfKinds, OfText, OfValues, OfWriting, OfTyped, OfRoutes, OfLists, OfPortions, OfOverload, OfAggregate, OfFrames, OfStream}
 
 pub of-general : OfGeneral
 unfolding over piecesIn pieces within lookup numberAt
@@ -89,3 +91,14 @@ of-overload = (refl, refl, refl, refl, refl, refl, refl, refl, refl, refl, refl,
 pub of-aggregate : OfAggregate
 unfolding flatten without within tooLong tooShort noCode checked messageChecks magicRight roomFor behindCode nextPortion ahead goesOn portionsIn portions isCut partsIn ofCode joinedValue fieldsOf optionsRead overloads unclearOverload overload namesFile namesSname readNamed fileRead snameRead fieldChecks aggregate codesOf behindLast optionFrom optionOf aggregateChecks overloadOf findChecks find entry optionsFrom entries valuesIn
 of-aggregate = (refl, refl, refl, refl, refl, refl, refl, refl, refl, refl, refl, refl, refl, refl, refl, refl, atContinuation 3, atEnd 6)
+
+pub of-frames : OfFrames
+unfolding over flatten tooShort checked tooLarge frame handing framesIn frames
+of-frames = (refl, refl, refl, (sendable, (sendable, tt)), refl, refl, refl, refl, refl, refl, refl, refl, refl, refl, refl, refl, refl)
+  where
+    sendable : Sendable (replicate 240 9) least
+    sendable = record { least = lit≤ tt; most = lit≤ tt; held = lit≤ tt }
+
+pub of-stream : OfStream
+unfolding over tooShort checked tooLarge frame handing handOut gather endSize startSize receive isShut drainIn drain drainAll
+of-stream = (refl, refl, refl, refl, refl, refl, refl, refl, refl, refl, refl, refl, refl, refl, refl, refl, refl, refl, (lit< tt, lit≤ tt))

@@ -1,5 +1,5 @@
--- The worked examples of docs/READING.md, of its base and of RFC 3396's reading, a statement for each table: each example is computed from the
--- definitions.
+-- The worked examples of docs/READING.md, of its base, of RFC 3396's reading and of a stream, a statement for each table: each example is
+-- computed from the definitions.
 -- `tools/reading` holds the page against this file.
 -- Assumes nothing.
 use Prim.Native.Nat.{ℕ, _+_}
@@ -8,8 +8,9 @@ use mathlib.Core.Bool.{true, false}
 use mathlib.Core.List.{List, [], _∷_, _++_}
 use mathlib.Core.Option.{none, some}
 use lib.IntN.{negsuc}
-use lib.ListN.{length, replicate}
+use lib.ListN.{length, replicate, take}
 use Rattle.facts.specs.Distinct.{without}
+use Rattle.facts.specs.Each.{Each}
 use Rattle.facts.specs.Over.{over}
 use Rattle.facts.specs.Pieces.{pieces}
 use Rattle.facts.specs.Ranges.{lookup, row}
@@ -35,6 +36,7 @@ use Rattle.promises.specs.Order.{follows}
 use Rattle.promises.specs.Lists.{listed}
 use Rattle.promises.specs.Examples.{via}
 use Rattle.promises.specs.Incident.{incident}
+use Rattle.rfc.specs.Stream.{Fits, Sendable, between, drain, drainAll, drainIn, endSize, filling, frame, framed, frames, framesIn, gather, handOut, handing, isShut, receive, sent, shut, sizing, startSize, taken, tooLarge, yields}
 
 -- a value of a kind that holds this
 abbrev pub value : ℕ → Content → Value
@@ -311,3 +313,56 @@ OfAggregate =
     × (valuesIn 12 (abc ∷ record { code = 1; value = 7 ∷ [] } ∷ abc ∷ []) ≡ 97 ∷ 98 ∷ 99 ∷ 97 ∷ 98 ∷ 99 ∷ [])
     × (EndsCut (given (stop cutContinuation 3)))
     × (EndsWhole (given (stop end 6)))
+
+-- messages that a stream carries: one of the least length, and one of 256 bytes
+abbrev pub least : List ℕ
+least = replicate 240 7
+
+abbrev pub longer : List ℕ
+longer = replicate 256 7
+
+abbrev pub OfFrames : Type 0
+OfFrames =
+    (framed (7 ∷ 8 ∷ []) ≡ 0 ∷ 2 ∷ 7 ∷ 8 ∷ [])
+    × (take 4 (framed longer) ≡ 1 ∷ 0 ∷ 7 ∷ 7 ∷ [])
+    × (sent ((7 ∷ []) ∷ [] ∷ []) ≡ 0 ∷ 1 ∷ 7 ∷ 0 ∷ 0 ∷ [])
+    × (Each (Sendable (replicate 240 9)) (least ∷ least ∷ []))
+    × (tooLarge 3 (9 ∷ 9 ∷ []) ≡ true)
+    × (tooLarge 2 (9 ∷ 9 ∷ []) ≡ false)
+    × (frame least ≡ given least)
+    × (frame (replicate 239 7) ≡ refused 1)
+    × (handing (some (refused 1)) (yields [] between (7 ∷ [])) ≡ yields (refused 1 ∷ []) between (7 ∷ []))
+    × (handing none (yields [] between (7 ∷ [])) ≡ yields [] between (7 ∷ []))
+    × (framesIn 1 (9 ∷ []) (0 ∷ 1 ∷ 7 ∷ 0 ∷ 0 ∷ []) ≡ yields (refused 1 ∷ []) between (7 ∷ []))
+    × (frames (9 ∷ 9 ∷ 9 ∷ 9 ∷ []) (0 ∷ 3 ∷ 1 ∷ 2 ∷ 3 ∷ 4 ∷ []) ≡ yields (refused 1 ∷ []) (sizing 4) (1 ∷ 2 ∷ 3 ∷ 9 ∷ []))
+    × (frames [] (0 ∷ 0 ∷ []) ≡ yields (refused 1 ∷ []) between [])
+    × (frames (9 ∷ []) (0 ∷ 2 ∷ 1 ∷ []) ≡ yields (refused 17 ∷ []) shut (9 ∷ []))
+    × (frames (9 ∷ 9 ∷ 9 ∷ []) (0 ∷ 3 ∷ 7 ∷ []) ≡ yields [] (filling 3 1) (7 ∷ 9 ∷ 9 ∷ []))
+    × (frames (replicate 241 9) (framed least ++ 0 ∷ []) ≡ yields (given least ∷ []) (sizing 0) (least ++ 9 ∷ []))
+    × (frames (replicate 240 9) (0 ∷ 241 ∷ []) ≡ yields (refused 17 ∷ []) shut (replicate 240 9))
+
+-- two frames, and a size that is too large, in six reads, one of them empty
+abbrev pub inPieces : List (List ℕ)
+inPieces = (0 ∷ []) ∷ (2 ∷ 5 ∷ 6 ∷ []) ∷ [] ∷ (0 ∷ []) ∷ (1 ∷ 7 ∷ 0 ∷ []) ∷ (4 ∷ 5 ∷ []) ∷ []
+
+abbrev pub OfStream : Type 0
+OfStream =
+    (handOut 4 2 (7 ∷ 8 ∷ 9 ∷ []) ≡ taken (some (refused 1)) 4 between (7 ∷ 8 ∷ 9 ∷ []))
+    × (gather 0 3 0 (9 ∷ 9 ∷ []) (5 ∷ []) ≡ taken (some (refused 17)) 0 shut (9 ∷ 9 ∷ []))
+    × (gather 0 5 2 (9 ∷ 9 ∷ 9 ∷ 9 ∷ 9 ∷ []) (3 ∷ 4 ∷ []) ≡ taken none 2 (filling 5 4) (9 ∷ 9 ∷ 3 ∷ 4 ∷ 9 ∷ []))
+    × (gather 0 2 1 (5 ∷ 9 ∷ []) (6 ∷ 0 ∷ []) ≡ taken (some (refused 1)) 1 between (5 ∷ 6 ∷ []))
+    × (endSize 1 2 (9 ∷ []) [] ≡ taken none 1 (sizing 2) (9 ∷ []))
+    × (endSize 0 0 (9 ∷ []) (1 ∷ 7 ∷ 0 ∷ []) ≡ taken (some (refused 1)) 2 between (7 ∷ []))
+    × (startSize (9 ∷ []) [] ≡ taken none 0 between (9 ∷ []))
+    × (receive between (9 ∷ []) (0 ∷ 0 ∷ 0 ∷ []) ≡ taken (some (refused 1)) 2 between (9 ∷ []))
+    × (receive (sizing 1) (replicate 300 9) (0 ∷ []) ≡ taken none 1 (filling 256 0) (replicate 300 9))
+    × (receive (filling 5 2) (9 ∷ 9 ∷ 9 ∷ 9 ∷ []) [] ≡ taken (some (refused 17)) 0 shut (9 ∷ 9 ∷ 9 ∷ 9 ∷ []))
+    × (receive shut (9 ∷ []) (0 ∷ 0 ∷ []) ≡ taken (some (refused 17)) 0 shut (9 ∷ []))
+    × (isShut shut ≡ true)
+    × (isShut between ≡ false)
+    × (drainIn 1 between (9 ∷ []) (0 ∷ 0 ∷ 0 ∷ 0 ∷ []) ≡ yields (refused 1 ∷ []) between (9 ∷ []))
+    × (drain between (9 ∷ []) (0 ∷ 0 ∷ 0 ∷ 0 ∷ 0 ∷ []) ≡ yields (refused 1 ∷ refused 1 ∷ []) (sizing 0) (9 ∷ []))
+    × (drainAll between (9 ∷ 9 ∷ 9 ∷ []) inPieces ≡ yields (refused 1 ∷ refused 1 ∷ refused 17 ∷ []) shut (7 ∷ 6 ∷ 9 ∷ []))
+    × (drainAll between (replicate 240 9) ((0 ∷ []) ∷ (241 ∷ []) ∷ (0 ∷ 0 ∷ []) ∷ []) ≡ yields (refused 17 ∷ []) shut (replicate 240 9))
+    × (drainAll between (replicate 300 9) ((1 ∷ 0 ∷ replicate 255 7) ∷ [] ∷ (7 ∷ 0 ∷ 1 ∷ 8 ∷ []) ∷ []) ≡ yields (given longer ∷ refused 1 ∷ []) between (8 ∷ replicate 255 7 ++ replicate 44 9))
+    × (Fits (9 ∷ 9 ∷ []) (filling 2 1))
