@@ -35,11 +35,15 @@ impl<T: Copy + PartialEq> Twins<T> {
         &mut self.paper[AROUND..AROUND + size]
     }
 
-    /// Whether all that was lent is the same in both, and what is around it. Then the pattern is put back: over what the
-    /// paper wrote, or over all where the copies differ.
-    pub fn settle(&mut self, written: Range<usize>, size: usize) -> bool {
+    /// Whether all that was lent is the same in both, and what is around it.
+    pub fn are_same(&self, size: usize) -> bool {
         let looked_at = size + 2 * AROUND;
-        let same = self.library[..looked_at] == self.paper[..looked_at];
+        self.library[..looked_at] == self.paper[..looked_at]
+    }
+
+    /// The same, and then the pattern is put back: over what the paper wrote, or over all where the copies differ.
+    pub fn settle(&mut self, written: Range<usize>, size: usize) -> bool {
+        let same = self.are_same(size);
         let again = if same { AROUND + written.start..AROUND + written.end } else { 0..self.paper.len() };
         for at in again {
             self.library[at] = (self.pattern)(at);
@@ -60,6 +64,7 @@ mod tests {
         twins.library(8)[2..4].fill(1);
         assert!(twins.settle(2..4, 8));
         twins.library(8)[7] ^= 1;
+        assert!(!twins.are_same(0));
         assert!(!twins.settle(0..0, 7));
         assert!(twins.settle(0..0, 8));
     }

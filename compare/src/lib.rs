@@ -1,4 +1,4 @@
-//! The crate dhcproto and the library beside each other, in one process. `paper` is what document 01 says, and ticket 1 of document 02;
+//! The crate dhcproto and the library beside each other, in one process. `paper` is what document 01 says, and the tickets of document 02;
 //! `theirs` is what the crate answers, `sindovaleph::calls` the proved side; `cases` holds them against each other, one call at a time.
 
 pub mod agreement;

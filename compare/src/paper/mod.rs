@@ -1,4 +1,4 @@
-//! The rules of document 01, and those of tickets 1, 3 and 4 of document 02, written plainly: what each call has to answer, and what it
+//! The rules of document 01, and those of tickets 1, 3, 4 and 5 of document 02, written plainly: what each call has to answer, and what it
 //! leaves in lent memory. Nothing here calls the library or the crate; only the shapes of the answers are the boundary's.
 
 mod aggregate;
@@ -6,6 +6,7 @@ mod header;
 mod kinds;
 mod listing;
 mod rows;
+mod stream;
 mod text;
 mod values;
 mod walk;
@@ -16,6 +17,7 @@ pub use header::{AREA, CHADDR, CHADDR_END, FILE, FILE_END, SNAME, area, header, 
 pub use kinds::{element_size, kind_of};
 pub use listing::{listed_address, listed_option, listed_stop, no_listing};
 pub use rows::{list, read_list, write_list};
+pub use stream::{Uncut, receive, uncut};
 pub use text::is_utf8;
 pub use values::{element, read};
 pub use walk::{Found, find, step};
