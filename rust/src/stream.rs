@@ -114,6 +114,7 @@ impl<'c> Frames<'_, '_, 'c> {
     /// [`Refusal::SizeAboveBuffer`], once, behind which nothing is read until [`Stream::reset`].
     #[allow(clippy::should_implement_trait)]
     #[inline]
+    #[must_use = "a frame is handed out once"]
     pub fn next(&mut self) -> Option<Result<Message<'_>, Refusal>> {
         if self.ended {
             return None;

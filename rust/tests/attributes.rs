@@ -4,7 +4,8 @@
 #![deny(unreachable_patterns, unfulfilled_lint_expectations)]
 
 use sindovaleph::{
-    Chaddr, Ending, Kind, Listed, Message, Options, Overload, Refusal, Row, Stop, Value, Writer, codes, list, read,
+    Chaddr, Ending, Kind, Listed, Message, Options, Overload, Refusal, Row, Stop, Stream, Value, Writer, codes, list,
+    read,
 };
 use std::ops::Deref;
 
@@ -13,7 +14,7 @@ fn is_known(refusal: Refusal) -> bool {
     match refusal {
         MessageTooShort | TooLong | ChaddrPastEnd | PastEnd | JoinTooShort | NoSuchCode | ValueTooLong => true,
         NoRoom | OtherKind | WrongLength | NotUtf8 | WidthAbove32 | OddPairs | UnclearYesNo => true,
-        FieldCut | UnclearOverload => true,
+        FieldCut | UnclearOverload | SizeAboveBuffer => true,
         _ => false,
     }
 }
@@ -147,6 +148,21 @@ fn drops_the_overload(message: &Message<'_>) -> Result<(), Refusal> {
     Ok(())
 }
 
+#[expect(unused_must_use)]
+fn drops_a_chunk(stream: &mut Stream<'_>) {
+    stream.read(&[0, 0]);
+}
+
+#[expect(unused_must_use)]
+fn drops_a_frame(stream: &mut Stream<'_>) {
+    stream.read(&[0, 0]).next();
+}
+
+#[expect(unused_must_use)]
+fn drops_how_it_ended(stream: &Stream<'_>) {
+    stream.is_between();
+}
+
 #[test]
 fn an_answer_that_matters_is_not_dropped_unseen() {
     let mut rows = [Row::default()];
@@ -163,6 +179,10 @@ fn an_answer_that_matters_is_not_dropped_unseen() {
     drops_what_is_found(&message);
     drops_why_there_are_no_more(&message);
     assert_eq!(drops_the_overload(&message), Ok(()));
+    let mut stream = Stream::new(&mut []);
+    drops_a_chunk(&mut stream);
+    drops_a_frame(&mut stream);
+    drops_how_it_ended(&stream);
     let listed: Listed = list(&[255], 0, &mut rows).unwrap();
     assert_eq!(listed.stop, Some(Stop::End));
 }

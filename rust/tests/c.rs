@@ -1,9 +1,10 @@
 //! The header for C and C++: it compiles by itself without a warning, its numbers are those of this crate, the examples
-//! walk and write, NULL with length 0 is an empty slice, and a header of another version does not link.
+//! walk, write and receive, NULL with length 0 is an empty slice, and a header of another version does not link.
 
 mod common;
 
 use common::layouts;
+use sindovaleph::calls::Stream;
 use sindovaleph::{Kind, Refusal, Stop};
 use std::collections::BTreeSet;
 use std::env;
@@ -106,7 +107,11 @@ fn the_names_of_the_header_have_the_same_numbers() {
         Stop::from_number(number).inspect(|stop| says("STOP", format!("{stop:?}"), number));
         Kind::from_number(number).inspect(|kind| says("KIND", format!("{kind:?}"), number));
     }
-    assert_eq!(text.lines().count(), 1 + 16 + 5 + 16);
+    says("STREAM", "Between".into(), Stream::BETWEEN);
+    says("STREAM", "Sizing".into(), Stream::SIZING);
+    says("STREAM", "Filling".into(), Stream::FILLING);
+    says("STREAM", "Shut".into(), Stream::SHUT);
+    assert_eq!(text.lines().count(), 1 + 17 + 5 + 16 + 4);
     compiles(c_compiler().arg("-std=c11"), "numbers.c", &text);
 }
 
@@ -151,6 +156,15 @@ fn the_example_writes_all_rows_or_none() {
 fn the_example_finds_what_is_split() {
     let printed = printed_by("examples/find.c");
     assert_eq!(printed, "option 67 takes 13 bytes\n/diskless/foo\n52 67 12 53\n");
+}
+
+#[test]
+fn the_example_receives() {
+    let printed = printed_by("examples/receive.c");
+    let message = "a message of 244 bytes: option 53, 1 bytes\n";
+    let refused = "a frame is refused by 1\n";
+    let cut = "the stream ends within a frame: 2 of 244 bytes\n";
+    assert_eq!(printed, format!("{message}{refused}{cut}"));
 }
 
 /// The functions of the header that take a pointer.

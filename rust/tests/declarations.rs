@@ -216,8 +216,8 @@ fn assert_each_stands<T: PartialEq + std::fmt::Debug>(of: &BTreeMap<String, T>, 
 
 #[test]
 fn the_declarations_are_found() {
-    assert_eq!(rust_structs().len(), 13);
-    assert_eq!(rust_functions().len(), 34);
+    assert_eq!(rust_structs().len(), 15);
+    assert_eq!(rust_functions().len(), 35);
     assert!(rattle_structs().len() >= 5 && rattle_functions().len() >= 22, "the parser finds what stands there");
 }
 
@@ -257,7 +257,7 @@ fn the_header_has_the_same_functions() {
 }
 
 /// The version of the boundary, by its name, and the fingerprint of what is declared under it.
-const VERSION: (&str, u64) = ("sindovaleph_boundary_3", 0x0F1B_5985_925B_D36E);
+const VERSION: (&str, u64) = ("sindovaleph_boundary_4", 0xA45E_4F69_0F3E_D0BC);
 
 const VERSION_BEGINS: &str = "sindovaleph_boundary_";
 
@@ -307,7 +307,7 @@ fn rows_have_the_names_and_the_order_of_what_they_hold() {
 
 #[test]
 fn sizes_and_offsets() {
-    let expected: [(&str, usize, usize, &[usize]); 13] = [
+    let expected: [(&str, usize, usize, &[usize]); 15] = [
         ("Fields", 40, 4, &[0, 4, 8, 12, 16, 20, 22, 24, 26, 28, 30, 31, 32, 33, 34, 35, 36, 37]),
         ("Field", 16, 8, &[0, 8]),
         ("Step", 32, 8, &[0, 1, 2, 8, 16, 24]),
@@ -321,6 +321,8 @@ fn sizes_and_offsets() {
         ("WriteRow", 24, 8, &[0, 8, 16]),
         ("WrittenRows", 24, 8, &[0, 8, 16]),
         ("Route", 12, 4, &[0, 4, 8]),
+        ("Stream", 6, 2, &[0, 1, 2, 4]),
+        ("Received", 32, 8, &[0, 8, 16, 24]),
     ];
     let structs = rust_structs();
     for (layout, (name, size, align, offsets)) in layouts().iter().zip(expected) {
@@ -424,6 +426,30 @@ fn entries_cross() {
     bytes[245] = 0x84;
     assert_eq!(calls::overload(&bytes), Field { refused: 16, number: 0 });
     assert_eq!(calls::entries(&bytes, &mut rows), Entries { refused: 16, codes: 0 });
+}
+
+#[test]
+fn a_stream_crosses() {
+    // A size of 0x0102, of which the frame's last two bytes are yet to come, and behind it another size's first byte.
+    let mut buffer = [9; 0x0103];
+    let sizing = Stream { state: Stream::SIZING, high: 1, ..Stream::default() };
+    let filling = Stream { state: Stream::FILLING, high: 0, size: 0x0102, filled: 0x0100 };
+    let more = Received { refused: 0, len: 0, used: 0x0101, stream: filling };
+    assert_eq!(receive(sizing, &mut buffer, &[2; 0x0101]), more);
+    let message = Received { refused: 0, len: 0x0102, used: 2, stream: Stream::default() };
+    assert_eq!(receive(filling, &mut buffer, &[7, 8, 1]), message);
+    assert_eq!(buffer[0x00FF..], [2, 7, 8, 9]);
+    assert_eq!(receive(Stream::default(), &mut buffer, &[1]), Received { used: 1, stream: sizing, ..more });
+    // Of a frame that is not whole the buffer has too few bytes now; and any state behind the third is refused.
+    let shut = Stream { state: Stream::SHUT, ..Stream::default() };
+    let refused = Received { refused: 17, len: 0, used: 0, stream: shut };
+    assert_eq!(receive(filling, &mut buffer[..0x0101], &[7]), refused);
+    for state in 3..=255 {
+        assert_eq!(receive(Stream { state, high: 5, size: 6, filled: 7 }, &mut buffer, &[7]), refused);
+    }
+    let short = Received { refused: 1, len: 0, used: 3, stream: Stream::default() };
+    assert_eq!(receive(Stream::default(), &mut buffer, &[0, 1, 6, 7]), short);
+    assert_eq!(buffer[..2], [6, 2]);
 }
 
 #[test]

@@ -68,6 +68,13 @@ static void read_message(Empty none, const uint8_t *message, size_t len) {
     say("sindovaleph_entries", entries.refused, entries.codes, 0, 0);
 }
 
+/* A chunk of so many bytes is read into a buffer, of which so many bytes are lent. */
+static void receive(uint8_t *buffer, size_t buffer_len, const uint8_t *chunk, size_t len) {
+    SindovalephStream stream = {0};
+    SindovalephReceived received = sindovaleph_receive(stream, buffer, buffer_len, chunk, len);
+    say("sindovaleph_receive", received.refused, received.len, received.used, received.stream.state);
+}
+
 /* A value is written to a room, of which so many bytes are lent. */
 static void write_values(uint8_t *to, size_t len) {
     say_written("sindovaleph_close", sindovaleph_close(to, len, 0));
@@ -102,6 +109,8 @@ static void write_nothing(Empty none, uint8_t *to, size_t len) {
 
 static void all(Empty none) {
     static const uint8_t one_part[] = {12, 1, 65, 255}, two_parts[] = {12, 1, 65, 12, 1, 66};
+    /* A frame of no byte. */
+    static const uint8_t nothing[] = {0, 0};
     /* An option of one part, one of two, and one more in file. */
     static const uint8_t message[] = {
         [108] = 13, 1, 65, [236] = 99, 130, 83, 99, 52, 1, 1, 12, 1, 65, 9, 0, 12, 1, 66, 255,
@@ -112,6 +121,9 @@ static void all(Empty none) {
     walk(none, two_parts, sizeof two_parts);
     read_message(none, none.bytes, 0);
     read_message(none, message, sizeof message);
+    receive(none.bytes, 0, none.bytes, 0);
+    receive(none.bytes, 0, nothing, sizeof nothing);
+    receive(room, sizeof room, none.bytes, 0);
     write_values(none.bytes, 0);
     write_nothing(none, none.bytes, 0);
     write_nothing(none, room, sizeof room);

@@ -57,5 +57,7 @@ pub fn layouts() -> Vec<Layout> {
         WriteRow { code start len }
         WrittenRows { refused rows place }
         Route { width destination gateway }
+        Stream { state high size filled }
+        Received { refused len used stream }
     }
 }
