@@ -64,8 +64,8 @@ impl<'b> Stream<'b> {
         Stream { buffer, stands: calls::Stream::default() }
     }
 
-    /// What comes next of the stream, as one read of the socket gave it. Nothing is read of it before
-    /// [`Frames::next`] is called; call that until it gives `None`.
+    /// What comes next of the stream, as one read of the socket gave it. [`Frames::next`] reads it, frame by frame: call
+    /// that until it gives `None`, since what is left of the chunk then is lost to the stream.
     #[inline]
     pub fn read<'s, 'c>(&'s mut self, chunk: &'c [u8]) -> Frames<'s, 'b, 'c> {
         Frames { stream: self, rest: chunk, ended: false }
@@ -111,7 +111,7 @@ pub struct Frames<'s, 'b, 'c> {
 impl<'c> Frames<'_, '_, 'c> {
     /// The next frame that the chunk completes, or `None` where it completes no more: a message;
     /// [`Refusal::MessageTooShort`] of a frame below 240 bytes, behind which reading goes on; or
-    /// [`Refusal::SizeAboveBuffer`], once, behind which nothing is read until [`Stream::reset`].
+    /// [`Refusal::SizeAboveBuffer`], once for each chunk, behind which nothing is read until [`Stream::reset`].
     #[allow(clippy::should_implement_trait)]
     #[inline]
     #[must_use = "a frame is handed out once"]

@@ -14,7 +14,7 @@ use std::thread;
 use std::time::{Duration, Instant};
 
 /// How long a test waits for anything, before it fails.
-const LIMIT: Duration = Duration::from_secs(60);
+const LIMIT: Duration = Duration::from_secs(30);
 const PAUSE: Duration = Duration::from_millis(1);
 const TOO_SHORT: &str = "refused, the message has fewer than 240 bytes";
 const WITHIN: &str = "collect: the connection ended within a frame\n";
@@ -78,13 +78,15 @@ fn next(lines: &Receiver<String>) -> String {
 /// All lines that are still to come.
 fn rest(lines: &Receiver<String>) -> String {
     let mut text = String::new();
-    loop {
+    let begun = Instant::now();
+    while begun.elapsed() < LIMIT {
         match lines.recv_timeout(LIMIT) {
             Ok(line) => text += &line,
             Err(RecvTimeoutError::Disconnected) => return text,
-            Err(RecvTimeoutError::Timeout) => panic!("the program does not end behind {text}"),
+            Err(RecvTimeoutError::Timeout) => break,
         }
     }
+    panic!("the example does not end behind {text}")
 }
 
 impl Run {
@@ -116,7 +118,7 @@ fn accepted(listener: TcpListener) -> TcpStream {
     socket
 }
 
-/// The listener of a test, and its address.
+/// A listener of the test's, and its address.
 fn listener() -> (TcpListener, String) {
     let listener = TcpListener::bind("127.0.0.1:0").expect("there is a port");
     let address = listener.local_addr().expect("it has an address").to_string();
@@ -274,7 +276,7 @@ fn a_peer_that_closes_within_a_frame() {
     let frame = whole();
     let out = frame.line(1) + "ended within a frame: 1 messages, 0 refused, 1 reads\n";
     // Behind the first byte of a size, behind the size, and within the bytes.
-    for (side, cut) in SIDES.iter().flat_map(|side| [1, 2, 3, 100, 259].map(|cut| (*side, cut))) {
+    for (side, cut) in SIDES.into_iter().flat_map(|side| [1, 2, 3, 100, 259].map(|cut| (side, cut))) {
         let bytes = [&frame.sent, &frame.sent[..cut]].concat();
         assert_eq!(ended(side, &[], &bytes), Ended::with(3, &out, WITHIN), "{side:?}, {cut}");
     }
@@ -295,7 +297,7 @@ fn a_peer_that_closes_between_two_frames() {
 }
 
 #[test]
-fn the_largest_size_fits_without_a_word_of_the_buffer() {
+fn the_largest_size_fits_where_no_buffer_is_named() {
     let area = [&[53, 1, 13][..], &[0; 65_535 - 240 - 4], &[255]].concat();
     let frames = [Frame::message(1, &area, "options 53, end"), Frame::refused(&[0; 239]), whole()];
     let (run, mut socket) = connected(Side::Connects, &[]);
@@ -307,22 +309,28 @@ fn the_largest_size_fits_without_a_word_of_the_buffer() {
     assert!(last.starts_with("ended between two frames: 2 messages, 1 refused, "), "{last}");
 }
 
+/// What is said of the frame whose size is above the buffer.
+fn above(number: usize) -> String {
+    let why = "the size of a frame is more than the buffer has, so what follows cannot be told apart";
+    format!("collect: frame {number}: {why}\n")
+}
+
 #[test]
 fn a_size_above_the_buffer() {
-    let [above, refused] = ["2", "3"].map(|number| {
-        let why = "the size of a frame is more than the buffer has, so what follows cannot be told apart";
-        format!("collect: frame {number}: {why}\n")
-    });
-    let frames = [Frame::refused(&[9; 239]), whole()];
+    let frames = [Frame::refused(&[9; 239]), whole(), Frame::refused(&[])];
     for side in SIDES {
-        let bytes = [&bytes(&frames), &[0, 0][..]].concat();
-        assert_eq!(ended(side, &["--buffer", "239"], &bytes), Ended::with(4, &text(&frames[..1]), &above), "{side:?}");
+        let ended = ended(side, &["--buffer", "239"], &bytes(&frames));
+        assert_eq!(ended, Ended::with(4, &text(&frames[..1]), &above(2)), "{side:?}");
     }
-    // The connection stays open, and the size alone is sent.
-    let (run, mut socket) = connected(Side::Listens, &["--buffer", "258"]);
+}
+
+#[test]
+fn a_size_above_the_buffer_behind_messages_that_fill_it() {
     let frames = [whole(), whole()];
+    let (run, mut socket) = connected(Side::Listens, &["--buffer", "258"]);
+    // Of the third frame the size alone is sent, and the connection stays open.
     socket.write_all(&[&bytes(&frames), &[1, 3][..]].concat()).expect("the frames are sent");
-    assert_eq!(run.end(), Ended::with(4, &text(&frames), &refused));
+    assert_eq!(run.end(), Ended::with(4, &text(&frames), &above(3)));
 }
 
 /// Waits until the example is connected to a port of the test's, which has not accepted it.
@@ -354,16 +362,20 @@ fn a_connection_that_fails_is_no_end() {
 
 #[test]
 fn addresses_that_cannot_be_used() {
-    let (listener, address) = listener();
-    let taken = Run::with(&["--listen", &address]).end();
-    drop(listener);
-    let silent = Run::with(&[&address]).end();
-    let no_port = Run::with(&["127.0.0.1"]).end();
-    let whys = [format!("listen on {address}"), format!("connect to {address}"), "connect to 127.0.0.1".into()];
-    for (ended, why) in [taken, silent, no_port].iter().zip(whys) {
-        assert_eq!((ended.status, &*ended.out), (Some(1), ""), "{why}");
-        assert!(ended.says.starts_with(&format!("collect: cannot {why}: ")), "{}", ended.says);
-        assert_eq!(ended.says.lines().count(), 1, "{}", ended.says);
+    let (_listener, taken) = listener();
+    // The port of a connection's other end: it stays taken, and nobody listens on it.
+    let socket = TcpStream::connect(&taken).expect("the test listens there");
+    let silent = socket.local_addr().expect("it has an address").to_string();
+    let cases: [(&[&str], String); 4] = [
+        (&["--listen", &taken], format!("listen on {taken}")),
+        (&[&silent], format!("connect to {silent}")),
+        (&["127.0.0.1"], "connect to 127.0.0.1".into()),
+        (&["--listen", ":nine"], "listen on :nine".into()),
+    ];
+    for (words, what) in cases {
+        let ended = Run::with(words).end();
+        assert_eq!((ended.status, &*ended.out, ended.says.lines().count()), (Some(1), "", 1), "{words:?}");
+        assert!(ended.says.starts_with(&format!("collect: cannot {what}: ")), "{}", ended.says);
     }
 }
 

@@ -163,7 +163,7 @@ fn many_messages_come_as_they_were_sent() {
     let mut chunks = Vec::new();
     let mut rest = &bytes[..];
     while !rest.is_empty() {
-        let most = [1, 3, 300, 5000][random(&mut state, 4)];
+        let most = [1, 3, 40, 1500][random(&mut state, 4)];
         let (chunk, behind) = rest.split_at(random(&mut state, most + 1).min(rest.len()));
         chunks.push(chunk);
         rest = behind;
