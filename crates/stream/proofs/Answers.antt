@@ -15,7 +15,7 @@ use Rattle.facts.specs.Over.{over}
 use Rattle.facts.proofs.Over.{over-nil, length-over}
 use Rattle.rfc.specs.Numbers.{given, refused, leastMessage}
 use Rattle.rfc.specs.Stream as rfc
-use Rattle.rfc.specs.Writing.{writeSlice}
+use Rattle.rfc.specs.Writing.{writeSlice, nextPart}
 use Rattle.rfc.proofs.Stream.{frame-short, frame-long, gather-large, gather-whole, gather-part}
 use Rattle.encoder.specs.Written.{Wrote}
 use Rattle.encoder.specs.declared.Written.{Written}
@@ -30,6 +30,13 @@ use Rattle.stream.specs.declared.Taken.{Taken}
 same : {t t′ : rfc.Taken} {buffer buffer′ : List ℕ} {r : Taken} → t ≡ t′ → buffer ≡ buffer′ → Took t′ buffer′ r → Took t buffer r
 same e b w = record { told = w .told ∙ ap answerOf (sym e); left = b ∙ w .left ∙ ap (λ (t : rfc.Taken). t .buffer) (sym e) }
 
+-- a whole frame of this size
+pub short-frame : (size used : ℕ) → size < leastMessage → takenOf (Refused 1) used Between ≡ handedOver size used
+short-frame size used h = rw (lt-ltb size leastMessage h)
+
+pub long-frame : (size used : ℕ) → leastMessage ≤ size → takenOf (Message size) used Between ≡ handedOver size used
+long-frame size used h = rw (le-ltb size leastMessage h)
+
 -- a whole frame, at the buffer's front
 hands-out : (used size : ℕ) (buffer : List ℕ) → size ≤ length buffer → Took (rfc.handOut used size buffer) buffer (handedOver size used)
 unfolding rfc.handOut
@@ -42,8 +49,8 @@ hands-out used size buffer h = record { told = go (decLe leastMessage size); lef
     n = length-take-le size buffer h
 
     go : Dec (leastMessage ≤ size) → handedOver size used ≡ takenOf (frameOf (some (rfc.frame bytes))) used Between
-    go (yes g) = rw (le-ltb size leastMessage g, frame-long bytes (omega (arith, n))) (λ i. takenOf (Message (sym n i)) used Between)
-    go (no g) = rw (lt-ltb size leastMessage (omega arith), frame-short bytes (omega (arith, n))) refl
+    go (yes g) = sym (long-frame size used g) ∙ rw (frame-long bytes (omega (arith, n))) (λ i. takenOf (Message (sym n i)) used Between)
+    go (no g) = sym (short-frame size used (omega arith)) ∙ rw (frame-short bytes (omega (arith, n))) refl
 
 module _ (used size filled : ℕ) (buffer rest : List ℕ) where
   pub large : {r : Taken} → length buffer < size → r ≡ takenOf (Refused 17) used Shut → Took (rfc.gather used size filled buffer rest) buffer r
@@ -60,37 +67,40 @@ module _ (used size filled : ℕ) (buffer rest : List ℕ) where
       ∙ (λ i. rfc.handOut (u i) size (over-nil buffer filled i)))
       refl (subst (Took (rfc.handOut used size buffer) buffer) (sym e) (hands-out used size buffer h))
 
--- the rest is a chunk's, behind so many bytes of it, and a writer put it in the buffer
-module _ (used size filled : ℕ) (buffer chunk buffer′ : List ℕ) (within : used ≤ length chunk) (h : size ≤ length buffer) (some : filled < size)
-    (w : Written) where
+-- the rest is a chunk's, behind so many bytes of it, and as much of it as the frame takes was put in the buffer
+module _ (used size filled new : ℕ) (buffer chunk buffer′ : List ℕ) (start : used ≤ length chunk) (h : size ≤ length buffer) (some : filled < size)
+    (taken : new ≡ nextPart (size - filled) (length chunk - used)) (w : Written)
+    (p : Wrote (writeSlice (take (used + new - used) (drop used chunk)) buffer filled) buffer buffer′ filled w) where
   abbrev rest : List ℕ
   rest = drop used chunk
 
   n : length rest ≡ length chunk - used
   n = length-drop used chunk
 
-  pub part-put : length chunk - used < size - filled
-      → Wrote (writeSlice (take (length chunk - used) rest) buffer filled) buffer buffer′ filled w
-      → Took (rfc.gather used size filled buffer rest) buffer′ (takenOf More (length chunk) (Filling size (filled + (length chunk - used))))
-  part-put g p =
-      let all : take (length chunk - used) rest ≡ rest = ap (λ (m : ℕ). take m rest) (sym n) ∙ take-length rest in
-      let u : length chunk ≡ used + length rest = omega (arith, n) in
+  k : used + new - used ≡ new
+  k = omega arith
+
+  pub part-put : (filled + new ≡ size → ⊥)
+      → Took (rfc.gather used size filled buffer rest) buffer′ (takenOf More (used + new) (Filling size (filled + new)))
+  part-put g =
+      let m : new ≡ length rest = omega (arith, n) in
+      let all : take (used + new - used) rest ≡ rest = ap (λ (m : ℕ). take m rest) (k ∙ m) ∙ take-length rest in
       same (gather-part used size filled buffer rest h (omega (arith, n)))
       (put-over _ buffer buffer′ filled w (omega (arith, n, ap length all)) p ∙ ap (over buffer filled) all)
-      (record { told = λ i. takenOf More (u i) (Filling size (filled + sym n i)); left = refl })
+      (record { told = λ i. takenOf More (used + m i) (Filling size (filled + m i)); left = refl })
 
-  pub full-put : {r : Taken} → size - filled ≤ length chunk - used
-      → Wrote (writeSlice (take (used + (size - filled) - used) rest) buffer filled) buffer buffer′ filled w
-      → r ≡ handedOver size (used + (size - filled)) → Took (rfc.gather used size filled buffer rest) buffer′ r
-  full-put {r} g p e =
-      let k : used + (size - filled) - used ≡ size - filled = omega arith in
-      let new : List ℕ = take (size - filled) rest in
-      let l : length new ≡ size - filled = length-take-le (size - filled) rest (omega (arith, n)) in
-      let held = length-over buffer filled new (omega (arith, l)) in
-      same (gather-whole used size filled buffer rest h (omega (arith, n)))
+  pub full-put : {r : Taken} → filled + new ≡ size → r ≡ handedOver size (used + new) → Took (rfc.gather used size filled buffer rest) buffer′ r
+  full-put {r} g e =
+      let m : new ≡ size - filled = omega arith in
+      let put : List ℕ = take new rest in
+      let l : length put ≡ new = length-take-le new rest (omega (arith, n)) in
+      let held : length (over buffer filled put) ≡ length buffer = length-over buffer filled put (omega (arith, l)) in
+      same
+      (gather-whole used size filled buffer rest h (omega (arith, n))
+      ∙ (λ i. rfc.handOut (used + sym m i) size (over buffer filled (take (sym m i) rest))))
       (put-over _ buffer buffer′ filled w (omega (arith, l)) (rw k at p))
-      (subst (Took (rfc.handOut (used + (size - filled)) size (over buffer filled new)) (over buffer filled new)) (sym e)
-      (hands-out (used + (size - filled)) size (over buffer filled new) (omega (arith, held))))
+      (subst (Took (rfc.handOut (used + new) size (over buffer filled put)) (over buffer filled put)) (sym e)
+      (hands-out (used + new) size (over buffer filled put) (omega (arith, held))))
 
 -- a size is begun or ended, or the chunk is at its end
 module _ (buffer chunk : List ℕ) where

@@ -106,21 +106,19 @@ fn gather(size: u16, filled: u16, buffer: &mut [u8], chunk: &[u8], used: usize) 
     if have >= all {
         return hand_out(all, used);
     }
-    let left = chunk.len() - used;
-    let missing = all - have;
-    if left < missing {
-        encoder::write_slice(buffer, have, &chunk[used..chunk.len()]);
-        return Taken {
-            frame: Frame::More,
-            used: chunk.len(),
-            stream: Stream::Filling {
-                size,
-                filled: (have + left) as u16,
-            },
-        };
+    let new = parts::next_piece(chunk.len() - used, all - have);
+    encoder::write_slice(buffer, have, &chunk[used..used + new]);
+    if have + new == all {
+        return hand_out(all, used + new);
     }
-    encoder::write_slice(buffer, have, &chunk[used..used + missing]);
-    hand_out(all, used + missing)
+    Taken {
+        frame: Frame::More,
+        used: used + new,
+        stream: Stream::Filling {
+            size,
+            filled: (have + new) as u16,
+        },
+    }
 }
 
 // A whole frame stands in the buffer.

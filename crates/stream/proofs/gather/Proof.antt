@@ -1,4 +1,4 @@
--- `gather` meets its contract: a law for each return. The frame is too large, whole already, gathered in part, or whole now.
+-- `gather` meets its contract: a law for each return. The frame is too large, whole already, whole now, or gathered in part.
 -- Assumes nothing.
 use native.Mathlib.Omega.{arith}
 use borrow.Author.Needs.{needs}
@@ -14,13 +14,15 @@ returns-2 c = none-missing _ _ _ _ _ (c .before .before .if1 .left) (c .before .
 
 returns-3 : tie.Need-returns-3
 returns-3 c =
-    let start = c .before .before .before .before .before .before .before .before .before .before in
-    part-put _ _ _ _ _ _ (start .pre) (omega arith) (omega arith) _ (omega arith) (c .before .before .write-slice .ensures)
+    let put = c .before .before .before .before in
+    full-put _ _ _ _ _ _ _ (omega arith) (omega arith) (omega arith) (put .before .before .before .next-piece .ensures) _ (put .write-slice .ensures)
+    (c .before .if3 .taken) (c .hand-out2 .ensures)
 
 returns-4 : tie.Need-returns-4
 returns-4 c =
-    full-put _ _ _ _ _ _ (omega arith) (omega arith) (omega arith) _ (omega arith) (c .before .before .before .write-slice2 .ensures)
-    (c .hand-out2 .ensures)
+    let put = c .before .before .before in
+    part-put _ _ _ _ _ _ _ (omega arith) (omega arith) (omega arith) (put .before .before .before .next-piece .ensures) _ (put .write-slice .ensures)
+    (c .if3 .left)
 
 pub gather-spec : {M : Type 1} → statement M
 gather-spec =
@@ -32,20 +34,19 @@ gather-spec =
     returns-2
     (λ c. search needs)
     (λ c. search needs)
+    (λ c κs. search needs)
+    (λ c. search needs)
     (λ c. search needs)
     (λ c. search needs)
     (λ c. search needs)
     (λ c κs. search needs)
     (λ c. search needs)
     (λ c. search needs)
+    (λ c κs. search needs)
     (λ c. search needs)
     returns-3
     (λ c. search needs)
     (λ c. search needs)
     (λ c. search needs)
-    (λ c. search needs)
-    (λ c κs. search needs)
-    (λ c. search needs)
-    (λ c κs. search needs)
     (λ c. search needs)
     returns-4)
