@@ -1,16 +1,16 @@
 -- Ticket 5: a stream of messages over TCP, cut anywhere.
 -- Assumes nothing.
-use Prim.Native.Nat.{ℕ, _+_, _≤_, _<_}
+use Prim.Native.Nat.{ℕ, _≤_, _<_}
 use mathlib.Core.Path.{_≡_}
-use mathlib.Core.Bool.{true, false}
-use mathlib.Core.List.{List, [], _∷_, _++_, map, flatten}
-use mathlib.Core.Option.{none, some}
-use lib.ListN.{length, take, drop}
+use mathlib.Core.Bool.{false}
+use mathlib.Core.List.{List, [], _∷_, map, flatten}
+use mathlib.Core.Option.{some}
+use lib.ListN.{length, take}
 use Rattle.facts.specs.Each.{Each}
 use Rattle.facts.specs.BigEndian.{number}
-use Rattle.rfc.specs.Numbers.{Answer, given, refused, needs, leastMessage, mostBytes}
+use Rattle.rfc.specs.Numbers.{Answer, given, refused, leastMessage, mostBytes}
 use Rattle.rfc.specs.Lists.{Bytes}
-use Rattle.rfc.specs.Stream.{Stream, between, sizing, filling, shut, Fits, isShut, Taken, taken, receive, Yield, yields, frames, drainAll, Sendable, sent}
+use Rattle.rfc.specs.Stream.{Stream, between, sizing, filling, shut, Fits, isShut, Taken, taken, receive, frames, drainAll, Sendable, sent}
 
 -- "If the caller lends the same buffer each time and doesn't write to it, then however the stream is cut, the messages handed out, their
 -- order and the state after the last byte are those of the uncut stream." And so is what the buffer then holds

@@ -1,15 +1,13 @@
 -- Calls over an uncut stream give it frame by frame (`specs/Stream.antt`); so it is however it is cut. And what an uncut stream gives: each
 -- that is handed out is a message of 240 to 65,535 bytes, or 1 or 17; and messages that are sent with their sizes are handed out.
 -- Assumes nothing.
-use mathlib.Core.Path.{_≡_, refl, sym, ap, _∙_, subst}
+use mathlib.Core.Path.{_≡_, refl, sym, ap, _∙_}
 use Prim.Native.Nat.{ℕ, suc, zero, _+_, _-_, _≤_, _<_}
 use native.Mathlib.Omega.{arith}
 use native.Mathlib.Decide.{decLe}
 use mathlib.Core.List.{List, [], _∷_, _++_, map, flatten}
-use mathlib.Core.Bool.{cond}
 use mathlib.Core.Option.{none, some}
 use lib.ListN.{length, take, drop, length-append, drop-of-length-le}
-use lib.Dec.{leb, ltb}
 use lib.Seq.{length-take-le, take-append-seam, drop-append-seam}
 use borrow.Author.Tests.{le-leb, lt-leb, lt-ltb, le-ltb}
 use Rattle.facts.specs.Over.{over}
@@ -20,10 +18,11 @@ use Rattle.facts.proofs.BigEndian.{number-below, number-digits}
 use Rattle.rfc.specs.Numbers.{Answer, given, refused, leastMessage, mostBytes}
 use Rattle.rfc.specs.Lists.{Bytes}
 use Rattle.rfc.specs.Stream.{Stream, between, sizing, filling, shut, tooLarge, frame, Taken, taken, handOut, gather, endSize, startSize, receive, isShut, Yield, yields, handing, framesIn, frames, drainIn, drain, drainAll, framed, sent, Sendable}
-use Rattle.rfc.proofs.Stream.{frame-short, frame-long, gather-large, gather-whole, gather-part}
+use Rattle.rfc.proofs.Stream.{frame-long, frame-cases, gather-large, gather-whole, gather-part}
 use Rattle.rfc.proofs.Bytes.{byte-below, bytes-drop}
 use Rattle.rfc.proofs.Cuts.{uncut}
 
+-- nothing comes of nothing, and of a refused stream
 drain-nil : (k : ℕ) (s : Stream) (buffer : List ℕ) → drainIn k s buffer [] ≡ yields [] s buffer
 unfolding drainIn
 drain-nil zero s buffer = refl
@@ -35,13 +34,14 @@ drain-shut zero buffer chunk = refl
 drain-shut (suc k) buffer [] = refl
 drain-shut (suc k) buffer (b ∷ rest) = refl
 
+-- a call over an uncut stream reads its first frame
 drain-frames : (k : ℕ) (buffer stream : List ℕ) → drainIn k between buffer stream ≡ framesIn k buffer stream
 unfolding drainIn framesIn receive startSize endSize isShut handing handOut tooLarge
 drain-frames zero buffer stream = refl
 drain-frames (suc k) buffer [] = refl
 drain-frames (suc k) buffer (high ∷ []) = drain-nil k (sizing high) buffer
 drain-frames (suc k) buffer (high ∷ low ∷ rest) =
-    go (decLe (number (high ∷ low ∷ [])) (length buffer)) (decLe (number (high ∷ low ∷ [])) (length rest)) (λ (b : List ℕ) (l : List ℕ). drain-frames k b l)
+    go (decLe size (length buffer)) (decLe size (length rest)) (λ (b l : List ℕ). drain-frames k b l)
   where
     size : ℕ
     size = number (high ∷ low ∷ [])
@@ -50,12 +50,7 @@ drain-frames (suc k) buffer (high ∷ low ∷ rest) =
     goes t = handing (t .handed) (drainIn k (t .stands) (t .buffer) (drop (t .used) (high ∷ low ∷ rest)))
 
     go : Dec (size ≤ length buffer) → Dec (size ≤ length rest) → ((b l : List ℕ) → drainIn k between b l ≡ framesIn k b l)
-        → goes (gather (1 + 1) size 0 buffer rest)
-        ≡ cond (ltb (length buffer) size)
-        (yields (refused 17 ∷ []) shut buffer)
-        (cond (leb size (length rest))
-        (handing (some (frame (take size rest))) (framesIn k (over buffer 0 (take size rest)) (drop size rest)))
-        (yields [] (filling size (length rest)) (over buffer 0 rest)))
+        → goes (gather (1 + 1) size 0 buffer rest) ≡ framesIn (suc k) buffer (high ∷ low ∷ rest)
     go (no large) d ih =
         rw (lt-ltb (length buffer) size (omega arith))
         (ap goes (gather-large (1 + 1) size 0 buffer rest (omega arith)) ∙ ap (handing (some (refused 17))) (drain-shut k buffer rest))
@@ -83,13 +78,6 @@ as-uncut buffer chunks = uncut between buffer chunks tt ∙ drain-frames (length
 -- what a frame of no more than 65,535 bytes may be handed out as, each frame of a stream is
 module _ (P : Answer (List ℕ) → Type 0) (message : (m : List ℕ) → leastMessage ≤ length m → length m ≤ mostBytes → P (given m))
     (short : P (refused 1)) (large : P (refused 17)) where
-  frame-is : (bytes : List ℕ) → length bytes ≤ mostBytes → P (frame bytes)
-  frame-is bytes h = go (decLe leastMessage (length bytes))
-    where
-      go : Dec (leastMessage ≤ length bytes) → P (frame bytes)
-      go (yes g) = subst P (sym (frame-long bytes g)) (message bytes g h)
-      go (no g) = subst P (sym (frame-short bytes (omega arith))) short
-
   frames-in-are : (k : ℕ) (buffer stream : List ℕ) → Bytes stream → Each P (framesIn k buffer stream .handed)
   unfolding framesIn handing tooLarge
   frames-in-are zero buffer stream b = tt
@@ -111,7 +99,7 @@ module _ (P : Answer (List ℕ) → Type 0) (message : (m : List ℕ) → leastM
       go (yes h) (no g) ih = simp (le-ltb (length buffer) size h, lt-leb size (length rest) (omega arith)) tt
       go (yes h) (yes g) ih =
           simp (le-ltb (length buffer) size h, le-leb size (length rest) g)
-          (frame-is (take size rest) (omega (arith, below, length-take-le size rest g)), ih)
+          (frame-cases P (take size rest) (λ m. message (take size rest) m (omega (arith, below, length-take-le size rest g))) (λ _. short), ih)
 
   pub frames-are : (buffer stream : List ℕ) → Bytes stream → Each P (frames buffer stream .handed)
   unfolding frames

@@ -1,21 +1,21 @@
 -- The laws of `specs/Stream.antt` that are about one call: how a frame is gathered, what is handed out, and what a call leaves.
 -- Assumes nothing.
 use mathlib.Core.Path.{_≡_, refl, sym, ap, _∙_, subst}
-use Prim.Native.Nat.{ℕ, suc, zero, _+_, _-_, _≤_, _<_}
+use Prim.Native.Nat.{ℕ, _+_, _-_, _≤_, _<_}
 use native.Mathlib.Omega.{arith}
 use native.Mathlib.Decide.{decLe}
 use mathlib.Core.List.{List, [], _∷_}
-use mathlib.Core.Bool.{true, false}
-use mathlib.Core.Option.{Option, none, some}
-use lib.ListN.{length, take, drop, length-take}
+use mathlib.Core.Bool.{false}
+use mathlib.Core.Option.{none, some}
+use lib.ListN.{length, take}
 use lib.Seq.{length-take-le}
-use borrow.Author.Tests.{le-leb, lt-leb, lt-ltb, le-ltb, ltb-false}
+use borrow.Author.Tests.{le-leb, lt-leb, lt-ltb, le-ltb}
 use Rattle.facts.specs.Over.{over}
 use Rattle.facts.specs.BigEndian.{number}
 use Rattle.facts.proofs.Over.{over-nil, length-over}
-use Rattle.rfc.specs.Numbers.{Answer, given, refused, needs, leastMessage, tooShort, Check, check}
+use Rattle.rfc.specs.Numbers.{Answer, given, refused, leastMessage, tooShort}
 use Rattle.rfc.specs.Stream.{Stream, between, sizing, filling, shut, tooLarge, frame, Taken, taken, handOut, gather, endSize, startSize, receive, Fits, isShut}
-use Rattle.rfc.proofs.Numbers.{refuses as refuses-by, here, clears, next, done, passes, given-no, Clear, Refuses, refused-by}
+use Rattle.rfc.proofs.Numbers.{refuses as refuses-by, here, clears, next, done, given-no}
 
 -- what a whole frame is handed out as
 pub frame-short : (bytes : List ℕ) → length bytes < leastMessage → frame bytes ≡ refused 1
@@ -25,6 +25,24 @@ frame-short bytes h = refuses-by (given bytes) (here (lt-ltb (length bytes) leas
 pub frame-long : (bytes : List ℕ) → leastMessage ≤ length bytes → frame bytes ≡ given bytes
 unfolding frame tooShort
 frame-long bytes h = clears (given bytes) (next (le-ltb (length bytes) leastMessage h) done)
+
+-- what holds of both holds of what it is handed out as
+pub frame-cases : (P : Answer (List ℕ) → Type 0) (bytes : List ℕ) → (leastMessage ≤ length bytes → P (given bytes))
+    → (length bytes < leastMessage → P (refused 1)) → P (frame bytes)
+frame-cases P bytes l s = go (decLe leastMessage (length bytes))
+  where
+    go : Dec (leastMessage ≤ length bytes) → P (frame bytes)
+    go (yes h) = subst P (sym (frame-long bytes h)) (l h)
+    go (no h) = subst P (sym (frame-short bytes (omega arith))) (s (omega arith))
+
+-- a message that is handed out is the frame
+frame-given : (bytes m : List ℕ) → frame bytes ≡ given m → bytes ≡ m
+frame-given bytes m = frame-cases (λ a. a ≡ given m → bytes ≡ m) bytes (λ h e. cc) (λ h e. absurd (given-no m 1 (sym e)))
+
+-- and it is never handed out as 17
+frame-no-17 : (bytes : List ℕ) → frame bytes ≡ refused 17 → ⊥
+frame-no-17 bytes =
+    frame-cases (λ a. a ≡ refused 17 → ⊥) bytes (λ h e. given-no bytes 17 e) (λ h e. let n : _≡_ {A = ℕ} 1 17 = cc in omega arith)
 
 -- a frame being gathered: too large, whole, or in part
 module _ (used size filled : ℕ) (buffer rest : List ℕ) where
@@ -89,26 +107,6 @@ refuses-all buffer most used n =
       all-there = n;
     }
 
--- a message that is handed out is the frame, and has 240 bytes or more
-pub frame-given : (bytes m : List ℕ) → frame bytes ≡ given m → (bytes ≡ m) × (leastMessage ≤ length m)
-unfolding frame tooShort
-frame-given bytes m e = go (decLe leastMessage (length bytes))
-  where
-    go : Dec (leastMessage ≤ length bytes) → (bytes ≡ m) × (leastMessage ≤ length m)
-    go (yes h) =
-        let f : given bytes ≡ given m = sym (frame-long bytes h) ∙ e in
-        let b : bytes ≡ m = cc in
-        (b, omega (arith, ap length b))
-    go (no h) = let f : given m ≡ refused 1 = sym e ∙ frame-short bytes (omega arith) in absurd (given-no m 1 f)
-
--- a frame is never handed out as 17
-frame-no-17 : (bytes : List ℕ) → frame bytes ≡ refused 17 → ⊥
-frame-no-17 bytes e = go (decLe leastMessage (length bytes))
-  where
-    go : Dec (leastMessage ≤ length bytes) → ⊥
-    go (yes h) = given-no bytes 17 (sym (frame-long bytes h) ∙ e)
-    go (no h) = let z : refused 1 ≡ refused 17 = sym (frame-short bytes (omega arith)) ∙ e in let n : _≡_ {A = ℕ} 1 17 = cc in omega arith
-
 gather-leaves : (used size filled : ℕ) (buffer rest : List ℕ) (most : ℕ) → used + length rest ≤ most
     → Leaves buffer most (gather used size filled buffer rest)
 unfolding handOut
@@ -143,7 +141,7 @@ gather-leaves used size filled buffer rest most r =
 
     front : (held m : List ℕ) → size ≤ length held → frame (take size held) ≡ given m → take (length m) held ≡ m
     front held m h e =
-        let f = frame-given (take size held) m e .0 in
+        let f = frame-given (take size held) m e in
         let n : length m ≡ size = sym (ap length f) ∙ length-take-le size held h in
         ap (λ (k : ℕ). take k held) n ∙ f
 

@@ -9,7 +9,7 @@ use lib.ListN.{length, take, drop}
 use lib.Dec.{leb, ltb}
 use Rattle.facts.specs.Over.{over}
 use Rattle.facts.specs.BigEndian.{number, digits}
-use Rattle.rfc.specs.Numbers.{Answer, given, refused, leastMessage, mostBytes, tooShort, Check, check, checked}
+use Rattle.rfc.specs.Numbers.{Answer, given, refused, leastMessage, mostBytes, tooShort, check, checked}
 
 -- where a stream stands
 pub data Stream : Type 0 where

@@ -6,14 +6,14 @@ use native.Mathlib.Omega.{arith}
 use native.Mathlib.Numerals.{add-one}
 use native.Mathlib.Decide.{decLe}
 use mathlib.Core.List.{List, [], _∷_}
-use mathlib.Core.Option.{none, some}
+use mathlib.Core.Option.{some}
 use lib.ListN.{length, take, drop, getD, length-drop, drop-of-length-le}
 use lib.Seq.{length-take-le, take-length, drop-cons}
 use borrow.Author.Tests.{lt-ltb, le-ltb}
 use Rattle.facts.specs.BigEndian.{number}
 use Rattle.facts.specs.Over.{over}
 use Rattle.facts.proofs.Over.{over-nil, length-over}
-use Rattle.rfc.specs.Numbers.{given, refused, leastMessage}
+use Rattle.rfc.specs.Numbers.{leastMessage}
 use Rattle.rfc.specs.Stream as rfc
 use Rattle.rfc.specs.Writing.{writeSlice, nextPart}
 use Rattle.rfc.proofs.Stream.{frame-short, frame-long, gather-large, gather-whole, gather-part}
