@@ -20,6 +20,7 @@ pub mod recorded;
 pub mod senders;
 pub mod speed;
 pub mod stored;
+pub mod streamed;
 pub mod sweeps;
 pub mod table;
 pub mod theirs;

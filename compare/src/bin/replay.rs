@@ -6,6 +6,7 @@ use compare::modes;
 use compare::progress::say;
 use compare::senders::{self, Index};
 use compare::stored::{self, Stored};
+use compare::streamed::Streamed;
 use compare::table::Table;
 use std::path::{Path, PathBuf};
 use std::process::ExitCode;
@@ -16,16 +17,18 @@ struct Replay {
     bench: Bench,
     table: Table,
     found: Findings,
+    streamed: Streamed,
 }
 
 impl Replay {
-    /// One message: compared, and entered in the table.
+    /// One message: compared, entered in the table, and kept for the stream.
     fn message(&mut self, file: &str, index: &Index, message: &Stored<'_>) {
         self.bench.message(message.bytes, &[0, 1, message.bytes.len() / 2]);
         self.bench.whole_aggregate(message.bytes);
         let found = self.bench.findings.take();
         self.found.add(&format!("{file} {}", message.number), &found);
         self.table.add(senders::sender(index, message), message.number, &found, &modes::ways(message.bytes));
+        self.streamed.add(message.bytes);
         self.bench.progress.tell(self.table.messages, "messages");
     }
 
@@ -45,12 +48,13 @@ impl Replay {
         troubles.is_empty()
     }
 
-    /// The tables, the differences, and the verdict, with how many files could not be compared whole.
-    fn report(&self, troubled: usize) -> String {
+    /// The tables, the differences, what came of the stream, and the verdict, with how many files could not be compared whole.
+    fn report(&mut self, troubled: usize) -> String {
+        let stream = self.streamed.line(&mut self.found);
         let (messages, unexplained) = (self.table.messages, self.found.unexplained);
         let not_whole = if troubled > 0 { format!(", {troubled} files not compared whole") } else { String::new() };
         let verdict = format!("{messages} messages, {unexplained} unexplained differences{not_whole}\n");
-        self.table.lines() + &self.found.lines() + &self.table.ways() + &verdict
+        self.table.lines() + &self.found.lines() + &self.table.ways() + &stream + &verdict
     }
 }
 

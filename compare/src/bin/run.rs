@@ -35,6 +35,6 @@ fn main() -> ExitCode {
     bench.progress.end();
     let found = &bench.findings;
     let verdict = format!("{} cases, {} unexplained differences\n", found.cases, found.unexplained);
-    say(&(found.lines() + &verdict));
+    say(&(found.lines() + &bench.streams.line() + &verdict));
     ExitCode::from(u8::from(found.unexplained > 0))
 }

@@ -4,6 +4,7 @@ mod aggregate;
 mod listing;
 mod message;
 mod rows;
+mod stream;
 mod values;
 mod walk;
 mod writes;
@@ -16,6 +17,11 @@ use rows::{MOST_ROWS, read_row_pattern, row_pattern};
 use sindovaleph::calls::{ReadRow, Row};
 use std::fmt::{Arguments, Debug};
 
+pub use stream::{Cut, Refused, Streams};
+
+/// The most bytes of a stream that is lent.
+pub const MOST_STREAM: usize = 4 * MOST_BYTES;
+
 /// How many cases pass between two looks at the clock.
 const CASES_BETWEEN: u64 = 1024;
 
@@ -25,8 +31,12 @@ pub struct Bench {
     pub findings: Findings,
     /// How far the work is.
     pub progress: Progress,
+    /// How much of streams was compared.
+    pub streams: Streams,
     join: Twins<u8>,
     room: Twins<u8>,
+    buffer: Twins<u8>,
+    chunk: Twins<u8>,
     rows: Twins<Row>,
     read_rows: Twins<ReadRow>,
     /// The value of the option that was found last.
@@ -39,8 +49,11 @@ impl Bench {
         Bench {
             findings: Findings::default(),
             progress: Progress::new(),
+            streams: Streams::default(),
             join: Twins::new(2 * MOST_BYTES, byte_pattern),
             room: Twins::new(MOST_BYTES + 1, byte_pattern),
+            buffer: Twins::new(2 * MOST_BYTES, byte_pattern),
+            chunk: Twins::new(MOST_STREAM, byte_pattern),
             rows: Twins::new(MOST_ROWS, row_pattern),
             read_rows: Twins::new(MOST_ROWS, read_row_pattern),
             value: Vec::new(),

@@ -86,7 +86,7 @@ impl Whole {
     /// All parts of a code as one option, nothing joined: nothing where it has none.
     fn row(&self, code: u8) -> Option<Row> {
         let values = || self.parts.iter().filter(|part| part.code == code).map(|part| &part.value);
-        let place = values().last()?.end;
+        let place = values().next_back()?.end;
         Some(Row { code: code.into(), parts: values().count(), len: values().map(Range::len).sum(), place })
     }
 

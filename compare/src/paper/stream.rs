@@ -1,5 +1,5 @@
-//! A stream of messages over TCP (document 02, ticket 5; RFC 6926, section 6.1). A reader takes one byte after the other, and a call is what
-//! it comes to over a chunk. Beside it stands the uncut stream, which is split by its sizes alone.
+//! A stream of messages over TCP (document 02, ticket 5; RFC 6926, section 6.1). A reader takes one byte after the other, and a call is
+//! what it comes to over a chunk. Beside it stands the uncut stream, which is split by its sizes alone.
 
 use super::{LEAST_MESSAGE, big_endian};
 use sindovaleph::calls::{Received, Stream};
@@ -40,9 +40,7 @@ impl Reader {
         match *self {
             Reader { refused: true, .. } => Stream { state: SHUT, ..Stream::default() },
             Reader { first: None, .. } => Stream::default(),
-            Reader { first: Some(high), second: None, .. } => {
-                Stream { state: SIZING, high, ..Stream::default() }
-            }
+            Reader { first: Some(high), second: None, .. } => Stream { state: SIZING, high, ..Stream::default() },
             Reader { first: Some(first), second: Some(second), filled, .. } => {
                 let size = u16::from_be_bytes([first, second]);
                 Stream { state: FILLING, high: 0, size, filled: filled as u16 }
@@ -203,7 +201,13 @@ mod tests {
 
     fn row(buffer: Vec<u8>, reads: &[&[u8]], refused: &[u8], stands: Stream, left: &[&[u8]]) -> Row {
         let reads = reads.iter().map(|read| read.to_vec()).collect();
-        Row { buffer, reads, handed_out: refused.iter().map(|&number| Err(number)).collect(), stands, left: left.concat() }
+        Row {
+            buffer,
+            reads,
+            handed_out: refused.iter().map(|&number| Err(number)).collect(),
+            stands,
+            left: left.concat(),
+        }
     }
 
     /// The rows without a reset.

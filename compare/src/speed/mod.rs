@@ -1,6 +1,7 @@
 //! How fast the library and the crate are, beside hand-written C as the limit: the same inputs through all, in one process, answers
 //! compared first.
-//! `walk`, `aggregate`, `real`, `typed`, `texts`, `header`, `writing` and `growth` have the cases; `clock` and `count` measure them.
+//! `walk`, `aggregate`, `real`, `typed`, `texts`, `header`, `writing`, `stream` and `growth` have the cases; `clock` and `count` measure
+//! them.
 
 mod aggregate;
 pub mod arguments;
@@ -16,6 +17,7 @@ mod machine;
 pub mod measuring;
 mod page;
 mod real;
+mod stream;
 mod table;
 mod texts;
 mod typed;
@@ -38,6 +40,7 @@ fn cases(files: &[PathBuf]) -> Result<Vec<Case>, String> {
         writing::cases(),
         header::kinds(),
         writing::routes(),
+        stream::cases(),
     ];
     Ok(themes.into_iter().flatten().collect())
 }

@@ -44,6 +44,13 @@ crate has no such reading: its side goes over all that its walk gives, and gathe
 Texts are ASCII, or characters of one, two, three and four bytes in turn; Rust's own `from_utf8` is held against the library there,
 and a static table behind a call for the kinds. \"The safe crate\" is what a service calls: `Message::new` and its fields, `opts`, `find`
 and `read` of the crate `sindovaleph`, over those calls; of the hardware address it takes the bytes that lie in its field.
+
+\"Stream\" is what one message out of a stream over TCP costs (RFC 6926). It stands in one chunk, in which others follow, and takes one
+call of `receive`; \"cut\" it comes in two chunks of about the same length, and takes two calls. The safe crate's `Stream` also reads
+the header of what it hands out. The crate has no such reader: its columns are a plain `copy_from_slice` of the same bytes into such a
+buffer, in one piece or in two, by one who knows where the message begins and how long it is. So the ratio says how many such copies a
+message costs, and there is no target. The stream has about 20,000 bytes, or two messages of 65,535; it begins at a page, and the buffer
+in the middle of one. A long copy can be one instruction that is repeated: it is counted for each byte.
 ";
 
 /// What stands before the table of what was before.

@@ -12,7 +12,7 @@ use std::hint::black_box;
 const ROOM: usize = 5_000;
 
 /// The bytes of a page of memory.
-const PAGE: usize = 4_096;
+pub const PAGE: usize = 4_096;
 
 /// A code and its value.
 type Options = Vec<(u8, Vec<u8>)>;

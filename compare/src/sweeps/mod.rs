@@ -8,6 +8,7 @@ mod made;
 mod messages;
 mod routes;
 mod rows;
+mod streams;
 mod texts;
 mod values;
 mod writes;
@@ -20,7 +21,7 @@ type Sweep = fn(&mut Bench);
 
 /// Everything that is gone over whole.
 pub fn whole(bench: &mut Bench) {
-    let sweeps: [(&str, Sweep); 9] = [
+    let sweeps: [(&str, Sweep); 10] = [
         ("short areas", areas::sweep),
         ("headers", headers::sweep),
         ("texts", texts::sweep),
@@ -29,6 +30,7 @@ pub fn whole(bench: &mut Bench) {
         ("routes", routes::sweep),
         ("rows", rows::sweep),
         ("RFC 3396's reading", aggregate::sweep),
+        ("streams", streams::sweep),
         ("limits", limits::sweep),
     ];
     for (work, sweep) in sweeps {
