@@ -115,6 +115,19 @@ fn a_refused_stream_stays_so_until_it_is_reset() {
     assert_eq!(buffer[..3], [6, 5, 0xEE]);
 }
 
+#[test]
+fn what_comes_behind_a_reset_is_read_as_sizes() {
+    let mut buffer = [0xEE; 240];
+    let mut stream = Stream::new(&mut buffer);
+    let all = handed(&mut stream, [&[0][..], &[0xF1]]);
+    assert_eq!((all, stream.is_refused()), (vec![Err(SizeAboveBuffer)], true));
+    assert_eq!(handed(&mut stream, [&[0, 0][..]]), [Err(SizeAboveBuffer)]);
+    stream.reset();
+    assert_eq!(handed(&mut stream, [&[0, 1, 7][..]]), [Err(MessageTooShort)]);
+    assert!(stream.is_between());
+    assert_eq!((buffer[0], &buffer[1..]), (7, &[0xEE; 239][..]));
+}
+
 /// Some frames: a message, one of 3 bytes, one of none, a message, and the beginning of a third.
 fn some_frames() -> (Vec<u8>, Handed) {
     let messages = [message_with(&[53, 1, 13, 255]), message_with(&[53, 1, 14, 12, 2, 104, 111, 255])];
