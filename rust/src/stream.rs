@@ -65,7 +65,7 @@ impl<'b> Stream<'b> {
     }
 
     /// What comes next of the stream, as one read of the socket gave it. [`Frames::next`] reads it, frame by frame: call
-    /// that until it gives `None`, since what is left of the chunk then is lost to the stream.
+    /// that until it gives `None`. What is left unread of a chunk is lost to the stream.
     #[inline]
     pub fn read<'s, 'c>(&'s mut self, chunk: &'c [u8]) -> Frames<'s, 'b, 'c> {
         Frames { stream: self, rest: chunk, ended: false }
@@ -85,7 +85,7 @@ impl<'b> Stream<'b> {
     }
 
     /// Whether the stream stands between two frames. A connection that ends there has ended cleanly; one that ends
-    /// elsewhere was cut within a frame.
+    /// elsewhere was cut within a frame, unless the stream is refused.
     #[inline]
     #[must_use]
     pub fn is_between(&self) -> bool {
