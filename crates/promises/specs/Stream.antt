@@ -30,7 +30,7 @@ pub record CallLeaves (s : Stream) (buffer chunk : List ℕ) (t : Taken) : Type 
   -- the stream stands as the statement above asks, and the buffer has its length
   pub fits : Fits (t .buffer) (t .stands)
   pub kept : length (t .buffer) ≡ length buffer
-  -- no more bytes are used than there are, and one at least where there is one
+  -- no more bytes are used than there are; and one at least where there is one, of a stream that calls left so and did not shut
   pub most : t .used ≤ length chunk
   pub least : Fits buffer s → isShut s ≡ false → 0 < length chunk → 0 < t .used
   -- a message stands at the buffer's front

@@ -115,6 +115,7 @@ receive (sizing high) buffer chunk = endSize 0 high buffer chunk
 receive (filling size filled) buffer chunk = gather 0 size filled buffer chunk
 receive shut buffer chunk = taken (some (refused 17)) 0 shut buffer
 
+-- whether a stream is refused
 unfoldable pub isShut : Stream → Bool
 isShut between = false
 isShut (sizing high) = false

@@ -2,7 +2,7 @@
 -- Assumes nothing.
 use Prim.Native.Nat.{ℕ}
 use mathlib.Core.Path.{_≡_}
-use mathlib.Core.Bool.{Bool, true, false}
+use mathlib.Core.Bool.{cond}
 use mathlib.Core.List.{List}
 use lib.Dec.{eqb}
 use Rattle.rfc.specs.Stream as rfc
@@ -17,11 +17,8 @@ use Rattle.sindovaleph_stream.specs.declared.Received.{Received}
 
 -- the stream that plain numbers stand for
 abbrev pub stateOf : Stream → state.Stream
-stateOf s = pick (eqb (s .state) 0) Between (pick (eqb (s .state) 1) (Sizing (s .high)) (pick (eqb (s .state) 2) (Filling (s .size) (s .filled)) Shut))
-  where
-    pick : Bool → state.Stream → state.Stream → state.Stream
-    pick true a b = a
-    pick false a b = b
+stateOf s =
+    cond (eqb (s .state) 0) Between (cond (eqb (s .state) 1) (Sizing (s .high)) (cond (eqb (s .state) 2) (Filling (s .size) (s .filled)) Shut))
 
 -- the plain numbers that stand for a stream
 abbrev pub plainOf : state.Stream → Stream
