@@ -1,12 +1,14 @@
 /*
- * The limit that compare/bench measures against: the walk, the listings, the typed reading and the look at UTF-8, written by
- * hand in C with the same checks and the same answers as the library. Nothing but the measuring uses it.
+ * The limit that compare/bench measures against: the walk, the listings, the typed reading, the look at UTF-8 and the moves
+ * between options 33 and 121, written by hand in C with the same checks and the same answers as the library. Nothing but the
+ * measuring uses it.
  */
 #include "sindovaleph.h"
 
 #include <string.h>
 
 #define MOST_BYTES 65535
+#define MOST_VALUE 4080
 #define END 255
 #define HOME_AGENTS 68
 #define RARE(test) __builtin_expect(test, 0)
@@ -249,4 +251,126 @@ SindovalephListed limit_read_list(const uint8_t *area, size_t n, size_t place, s
                                   bool strict)
 {
     return listed(area, n, place, rows, numbers, 8, strict);
+}
+
+/* The moves between options 33 and 121 (RFC 3442): all rows are checked, and then written. */
+
+static uint32_t masked(const uint8_t *destination, uint8_t width)
+{
+    return width == 0 ? 0 : big_endian(destination) & UINT32_MAX << (32 - width);
+}
+
+static uint8_t width_for(uint32_t destination)
+{
+    if (destination < 0x80000000u)
+        return destination & 0xffffff ? 32 : 8;
+    if (destination < 0xc0000000u)
+        return destination & 0xffff ? 32 : 16;
+    return destination < 0xe0000000u && !(destination & 0xff) ? 24 : 32;
+}
+
+static bool barred(uint32_t destination)
+{
+    return destination == 0 || destination >= 0xe0000000u;
+}
+
+static SindovalephWritten refused_write(uint8_t number, size_t place)
+{
+    return (SindovalephWritten){number, place};
+}
+
+/* Whether a value that was made may be written: 7, then 8, 0 where it may. */
+static uint8_t value_refused(size_t len, size_t part, size_t left)
+{
+    if (len > MOST_VALUE)
+        return 7;
+    return len + 2 * ((len + part - 1) / part) > left ? 8 : 0;
+}
+
+/* Where a value is written first: behind room for the heads of all its parts. */
+static uint8_t *unheaded(uint8_t *room, size_t place, size_t len, size_t part)
+{
+    return room + place + 2 * ((len + part - 1) / part);
+}
+
+/* Moves the parts of such a value to where they belong, each behind its head. */
+static SindovalephWritten headed(uint8_t *room, size_t place, size_t len, uint8_t code, size_t part)
+{
+    const uint8_t *from = unheaded(room, place, len, part);
+    while (len > 0) {
+        size_t n = len < part ? len : part;
+        room[place] = code;
+        room[place + 1] = (uint8_t)n;
+        memmove(room + place + 2, from, n);
+        from += n;
+        place += 2 + n;
+        len -= n;
+    }
+    return (SindovalephWritten){0, place};
+}
+
+SindovalephWritten limit_move_out(uint8_t *room, size_t room_len, size_t place, const uint8_t *v, size_t n)
+{
+    if (n > MOST_BYTES || room_len > MOST_BYTES)
+        return refused_write(2, place);
+    if (place > room_len)
+        return refused_write(4, place);
+    if (n % 8)
+        return refused_write(10, place);
+    size_t len = 0;
+    for (size_t i = 0; i < n; i += 8) {
+        uint32_t destination = big_endian(v + i);
+        if (barred(destination))
+            return refused_write(18, place);
+        len += 5 + width_for(destination) / 8;
+    }
+    uint8_t refused = value_refused(len, 255, room_len - place);
+    if (refused)
+        return refused_write(refused, place);
+    uint8_t *at = unheaded(room, place, len, 255);
+    for (size_t i = 0; i < n; i += 8) {
+        uint8_t width = width_for(big_endian(v + i));
+        *at = width;
+        memcpy(at + 1, v + i, 4);
+        at += 1 + width / 8;
+        memcpy(at, v + i + 4, 4);
+        at += 4;
+    }
+    return headed(room, place, len, 121, 255);
+}
+
+SindovalephWritten limit_move_back(uint8_t *room, size_t room_len, size_t place, const uint8_t *v, size_t n)
+{
+    if (n > MOST_BYTES || room_len > MOST_BYTES)
+        return refused_write(2, place);
+    if (place > room_len)
+        return refused_write(4, place);
+    size_t len = 0;
+    for (size_t i = 0; i < n; len += 8) {
+        uint8_t width = v[i];
+        if (width > 32)
+            return refused_write(12, place);
+        size_t row = 5 + (width + 7) / 8;
+        if (row > n - i)
+            return refused_write(10, place);
+        uint32_t destination = masked(v + i + 1, width);
+        if (barred(destination))
+            return refused_write(18, place);
+        if (width != width_for(destination))
+            return refused_write(19, place);
+        i += row;
+    }
+    uint8_t refused = value_refused(len, 248, room_len - place);
+    if (refused)
+        return refused_write(refused, place);
+    uint8_t *at = unheaded(room, place, len, 248);
+    for (size_t i = 0; i < n; at += 8) {
+        uint8_t width = v[i];
+        uint32_t destination = __builtin_bswap32(masked(v + i + 1, width));
+        i += 1 + width / 8;
+        memcpy(at, &destination, 4);
+        memcpy(at + 4, v + i, 4);
+        i += 4;
+    }
+    return headed(room, place, len, 33, 248);
 }

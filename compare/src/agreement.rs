@@ -2,8 +2,8 @@
 
 use crate::paper;
 use crate::theirs::{Content, Reading, content_of};
-use dhcproto::v4::OptionCode;
-use sindovaleph::calls::Value;
+use dhcproto::v4::{DhcpOption, OptionCode};
+use sindovaleph::calls::{ReadRoute, Value};
 
 /// Whether the crate reads a value under a code as document 01 does, refusals included.
 pub fn same_reading(code: u8, value: &[u8], theirs: &Reading) -> bool {
@@ -48,4 +48,22 @@ fn same_list(code: u8, value: &[u8], paper: &Value, content: &Content<'_>) -> bo
         Content::Codes(held) => same(11, &mut held.iter().map(|&code| (u8::from(code).into(), 0))),
         _ => false,
     }
+}
+
+/// Whether the crate reads the routes of option 121 as ticket 6 does, but for two things: it masks no destination, so its own are masked
+/// first, and it ends its list at a width above 32.
+pub fn same_routes(value: &[u8], theirs: &Reading) -> bool {
+    let table = match theirs {
+        Reading::Is(DhcpOption::ClasslessStaticRoute(table)) => table,
+        Reading::NotEnoughBytes => return paper::count_routes(value).refused == 10,
+        _ => return false,
+    };
+    let mut place = 0;
+    let alike = table.iter().all(|&(destination, gateway)| {
+        let route = paper::route_from(value, place);
+        place = route.place;
+        let theirs = (destination.prefix_len(), u32::from(destination.network()), u32::from(gateway));
+        route.found && (route.width, route.destination, route.gateway) == theirs
+    });
+    alike && matches!(paper::route_from(value, place), ReadRoute { refused: 0 | 12, found: false, .. })
 }

@@ -4,6 +4,7 @@
 use crate::agreement::is_read_as;
 use crate::paper;
 use crate::theirs::Reading;
+use dhcproto::v4::DhcpOption;
 
 /// A kind of difference.
 #[derive(Clone, Copy, Debug, PartialEq, Eq, PartialOrd, Ord)]
@@ -17,13 +18,15 @@ pub enum Known {
     TypeOf37,
     TypesLeft,
     DebugAssertion,
+    BitsBehindWidth,
+    WideRoute,
     PadOrEndWritten,
     LongValueWritten,
 }
 
 impl Known {
     /// All kinds, in the order of their numbers.
-    pub const ALL: [Known; 11] = [
+    pub const ALL: [Known; 13] = [
         Known::AddressPastTheEnd,
         Known::LongMessage,
         Known::OtherMagic,
@@ -33,6 +36,8 @@ impl Known {
         Known::TypeOf37,
         Known::TypesLeft,
         Known::DebugAssertion,
+        Known::BitsBehindWidth,
+        Known::WideRoute,
         Known::PadOrEndWritten,
         Known::LongValueWritten,
     ];
@@ -49,6 +54,8 @@ impl Known {
             Known::TypeOf37 => "the type of code 37",
             Known::TypesLeft => "types left in the crate",
             Known::DebugAssertion => "a debug build's assertion",
+            Known::BitsBehindWidth => "bits behind a route's width, read",
+            Known::WideRoute => "a route's width above 32, read",
             Known::PadOrEndWritten => "codes 0 and 255, written",
             Known::LongValueWritten => "a value of more than 4,080 bytes",
         }
@@ -70,6 +77,8 @@ impl Known {
             Known::DebugAssertion => {
                 "codes 80 81 94 152-155 of another length: the crate panics, document 01 reads or refuses by 10"
             }
+            Known::BitsBehindWidth => "the crate shows them, ticket 6 masks the destination",
+            Known::WideRoute => "the crate answers the routes in front of it, ticket 6 refuses by 12",
             Known::PadOrEndWritten => "the crate writes code, length and value, document 01 refuses by 6",
             Known::LongValueWritten => "the crate writes it, document 01 refuses by 7",
         }
@@ -90,6 +99,19 @@ pub fn reading(code: u8, value: &[u8], theirs: &Reading) -> Option<Known> {
         37 if is_read_as(23, 37, value, theirs) => Some(Known::TypeOf37),
         _ => None,
     }
+}
+
+/// The kinds of difference in the reading of option 121's routes, where it is else the same.
+pub fn routes(value: &[u8], theirs: &Reading) -> impl Iterator<Item = Known> {
+    let shows_bits = match theirs {
+        Reading::Is(DhcpOption::ClasslessStaticRoute(table)) => {
+            table.iter().any(|(net, _)| net.addr() != net.network())
+        }
+        _ => false,
+    };
+    let bits = shows_bits.then_some(Known::BitsBehindWidth);
+    let wide = (paper::count_routes(value).refused == 12).then_some(Known::WideRoute);
+    bits.into_iter().chain(wide)
 }
 
 /// The kind of difference where document 01 refuses what the crate writes.

@@ -25,7 +25,7 @@ extern "C" {
 
 /* The version of the boundary. Its name carries the number, and each file that includes this header names it, where
    the compiler can be told so: a library of another version does not link. */
-#define SINDOVALEPH_BOUNDARY sindovaleph_boundary_4
+#define SINDOVALEPH_BOUNDARY sindovaleph_boundary_5
 
 /* The number of the version. */
 uint32_t SINDOVALEPH_BOUNDARY(void);
@@ -40,23 +40,25 @@ static uint32_t (*const sindovaleph_boundary)(void) __attribute__((used)) = SIND
 
 /* The refusals. */
 enum {
-    SINDOVALEPH_REFUSED_MESSAGE_TOO_SHORT = 1, /* the message has fewer than 240 bytes */
-    SINDOVALEPH_REFUSED_TOO_LONG = 2,          /* a message, area, room or value to be read: more than 65,535 bytes */
-    SINDOVALEPH_REFUSED_CHADDR_PAST_END = 3,   /* hlen says more bytes than the message has from byte 28 on */
-    SINDOVALEPH_REFUSED_PAST_END = 4,          /* a place is past the end, or an index is not below the count */
-    SINDOVALEPH_REFUSED_JOIN_TOO_SHORT = 5,    /* an option of several parts is longer than the join buffer */
-    SINDOVALEPH_REFUSED_NO_SUCH_CODE = 6,      /* the code is 0 or 255, which have no value */
-    SINDOVALEPH_REFUSED_VALUE_TOO_LONG = 7,    /* the value to be written has more than 4,080 bytes */
-    SINDOVALEPH_REFUSED_NO_ROOM = 8,           /* what is to be written does not fit from the place to the room's end */
-    SINDOVALEPH_REFUSED_OTHER_KIND = 9,        /* a typed write names a code of another kind */
-    SINDOVALEPH_REFUSED_WRONG_LENGTH = 10,     /* the value's length is wrong for its kind */
-    SINDOVALEPH_REFUSED_NOT_UTF8 = 11,         /* text is not UTF-8 */
-    SINDOVALEPH_REFUSED_WIDTH_ABOVE32 = 12,    /* a route's width is above 32 */
-    SINDOVALEPH_REFUSED_ODD_PAIRS = 13,        /* a list of pairs has an odd number of addresses */
-    SINDOVALEPH_REFUSED_UNCLEAR_YES_NO = 14,   /* strict reading: a yes/no byte is neither 0 nor 1 */
-    SINDOVALEPH_REFUSED_FIELD_CUT = 15,        /* a field that holds options is cut */
-    SINDOVALEPH_REFUSED_UNCLEAR_OVERLOAD = 16, /* option 52 has more than one part or is not one byte of 1 to 3 */
-    SINDOVALEPH_REFUSED_SIZE_ABOVE_BUFFER = 17 /* a stream: the size of a frame is more than the buffer has */
+    SINDOVALEPH_REFUSED_MESSAGE_TOO_SHORT = 1,   /* the message has fewer than 240 bytes */
+    SINDOVALEPH_REFUSED_TOO_LONG = 2,            /* a message, area, room or value to be read: more than 65,535 bytes */
+    SINDOVALEPH_REFUSED_CHADDR_PAST_END = 3,     /* hlen says more bytes than the message has from byte 28 on */
+    SINDOVALEPH_REFUSED_PAST_END = 4,            /* a place is past the end, or an index is not below the count */
+    SINDOVALEPH_REFUSED_JOIN_TOO_SHORT = 5,      /* an option of several parts is longer than the join buffer */
+    SINDOVALEPH_REFUSED_NO_SUCH_CODE = 6,        /* the code is 0 or 255, which have no value */
+    SINDOVALEPH_REFUSED_VALUE_TOO_LONG = 7,      /* the value to be written has more than 4,080 bytes */
+    SINDOVALEPH_REFUSED_NO_ROOM = 8,             /* what is to be written does not fit behind the place in the room */
+    SINDOVALEPH_REFUSED_OTHER_KIND = 9,          /* a typed write names a code of another kind */
+    SINDOVALEPH_REFUSED_WRONG_LENGTH = 10,       /* the value's length is wrong for its kind, or a route is cut */
+    SINDOVALEPH_REFUSED_NOT_UTF8 = 11,           /* text is not UTF-8 */
+    SINDOVALEPH_REFUSED_WIDTH_ABOVE32 = 12,      /* a route's width is above 32 */
+    SINDOVALEPH_REFUSED_ODD_PAIRS = 13,          /* a list of pairs has an odd number of addresses */
+    SINDOVALEPH_REFUSED_UNCLEAR_YES_NO = 14,     /* strict reading: a yes/no byte is neither 0 nor 1 */
+    SINDOVALEPH_REFUSED_FIELD_CUT = 15,          /* a field that holds options is cut */
+    SINDOVALEPH_REFUSED_UNCLEAR_OVERLOAD = 16,   /* option 52 has more than one part or is not one byte of 1 to 3 */
+    SINDOVALEPH_REFUSED_SIZE_ABOVE_BUFFER = 17,  /* a stream: the size of a frame is more than the buffer has */
+    SINDOVALEPH_REFUSED_DESTINATION_BARRED = 18, /* a move: a destination is 0.0.0.0 or its first octet is above 223 */
+    SINDOVALEPH_REFUSED_NO_OLD_FORM = 19         /* a move back: no pair of option 33 stands for a route's width */
 };
 
 /* Why a walk stopped. A stop is no refusal: the place moves, and a further call goes on from there. */
@@ -218,6 +220,22 @@ typedef struct {
     uint32_t gateway;
 } SindovalephRoute;
 
+/* A route that is read, if there is one. Where none is, all numbers are 0 but for a place that was given. */
+typedef struct {
+    uint8_t refused;
+    bool found; /* not behind the last route */
+    uint8_t width;
+    uint32_t destination; /* masked to its width */
+    uint32_t gateway;
+    size_t place; /* behind the route; 0 of a route by its index */
+} SindovalephReadRoute;
+
+/* How many routes a value has. */
+typedef struct {
+    uint8_t refused;
+    size_t count;
+} SindovalephRouteCount;
+
 /* Where a stream of messages stands, kept by the caller between two calls. Numbers that `state` does not name are 0. A
    fresh stream is all 0, and so is a reset: `SindovalephStream stream = {0};`. */
 typedef struct {
@@ -341,6 +359,33 @@ SindovalephWritten sindovaleph_write_codes(uint8_t *room, size_t room_len, size_
 /* Writes the table of classless routes, option 121. */
 SindovalephWritten sindovaleph_write_routes(uint8_t *room, size_t room_len, size_t place,
                                             const SindovalephRoute *routes, size_t count);
+
+/* Classless routes, option 121 (RFC 3442): read, and moved from the static routes of option 33 and back. A value is
+   that of one option, its parts joined. */
+
+/* The route that begins at a place of option 121's value, refused by 2, 4, 12 and 10 in this order; none is found at
+   the value's end. Called from place 0 on, and then from each place that it answers, it reads all routes. */
+SindovalephReadRoute sindovaleph_route_from(const uint8_t *value, size_t value_len, size_t place);
+
+/* The route at an index of option 121's value. All rows are checked first: refused by 2, by 12 or 10 of the first bad
+   row, and then by 4 for the index. */
+SindovalephReadRoute sindovaleph_route_at(const uint8_t *value, size_t value_len, size_t index);
+
+/* How many routes option 121's value has, refused by 2, and by 12 or 10 of the first bad row. */
+SindovalephRouteCount sindovaleph_count_routes(const uint8_t *value, size_t value_len);
+
+/* Writes option 33's value, pairs of a destination and a router, as option 121. A destination has the width 8 where its
+   first octet is 0 to 127 and the last three are 0; 16 where it is 128 to 191 and the last two are 0; 24 where it is
+   192 to 223 and the last is 0; else 32. Refused by 2, 4 and 10 (no multiple of 8), then by 18 of the first bad pair,
+   then by 7 and 8, both of the value made. An empty value writes nothing. */
+SindovalephWritten sindovaleph_move_out(uint8_t *room, size_t room_len, size_t place, const uint8_t *value,
+                                        size_t value_len);
+
+/* Writes option 121's value as option 33, where each route has the width that its masked destination has above. Refused
+   by 2 and 4, then by the first bad row, in the order 12, 10, 18, 19, then by 7 and 8, both of the value made. An empty
+   value writes nothing. */
+SindovalephWritten sindovaleph_move_back(uint8_t *room, size_t room_len, size_t place, const uint8_t *value,
+                                         size_t value_len);
 
 /* Lists, element by element. */
 

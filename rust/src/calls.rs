@@ -259,11 +259,39 @@ pub struct Route {
     pub gateway: u32,
 }
 
+/// A route that is read, if there is one. Where none is, all numbers are 0 but for a place that was given.
+#[repr(C)]
+#[derive(Clone, Copy, Debug, PartialEq, Eq)]
+pub struct ReadRoute {
+    /// The refusal, 0 for none.
+    pub refused: u8,
+    /// Whether there is a route; not behind the last.
+    pub found: bool,
+    /// How many bits the mask has, 0 to 32.
+    pub width: u8,
+    /// The destination, masked to its width.
+    pub destination: u32,
+    /// The gateway.
+    pub gateway: u32,
+    /// The place behind the route; 0 of a route by its index.
+    pub place: usize,
+}
+
+/// How many routes a value has.
+#[repr(C)]
+#[derive(Clone, Copy, Debug, PartialEq, Eq)]
+pub struct RouteCount {
+    /// The refusal, 0 for none.
+    pub refused: u8,
+    /// How many there are.
+    pub count: usize,
+}
+
 mod boundary {
     use super::*;
 
     unsafe extern "C" {
-        pub safe fn sindovaleph_boundary_4() -> u32;
+        pub safe fn sindovaleph_boundary_5() -> u32;
         pub fn sindovaleph_header(message: *const u8, message_len: usize) -> Fields;
         pub fn sindovaleph_xid(message: *const u8, message_len: usize) -> Field;
         pub safe fn sindovaleph_kind_of(code: u8) -> u8;
@@ -407,6 +435,23 @@ mod boundary {
             routes: *const Route,
             count: usize,
         ) -> Written;
+        pub fn sindovaleph_route_from(value: *const u8, value_len: usize, place: usize) -> ReadRoute;
+        pub fn sindovaleph_route_at(value: *const u8, value_len: usize, index: usize) -> ReadRoute;
+        pub fn sindovaleph_count_routes(value: *const u8, value_len: usize) -> RouteCount;
+        pub fn sindovaleph_move_out(
+            room: *mut u8,
+            room_len: usize,
+            place: usize,
+            value: *const u8,
+            value_len: usize,
+        ) -> Written;
+        pub fn sindovaleph_move_back(
+            room: *mut u8,
+            room_len: usize,
+            place: usize,
+            value: *const u8,
+            value_len: usize,
+        ) -> Written;
         pub fn sindovaleph_write_listing(
             room: *mut u8,
             room_len: usize,
@@ -422,7 +467,7 @@ use boundary::*;
 // The version of the boundary that is declared here: every program with this crate in it names it, so that it does not
 // link with a library of another version.
 #[used]
-static BOUNDARY: extern "C" fn() -> u32 = sindovaleph_boundary_4;
+static BOUNDARY: extern "C" fn() -> u32 = sindovaleph_boundary_5;
 
 // SAFETY, of every call below: the proved side takes any numbers and any bytes, so a call needs valid slices and
 // nothing else. References are that, with their own lengths, for as long as the call lasts; the proved side keeps none
@@ -723,6 +768,40 @@ pub fn write_codes(room: &mut [u8], place: usize, code: u8, codes: &[u8]) -> Wri
 #[inline]
 pub fn write_routes(room: &mut [u8], place: usize, routes: &[Route]) -> Written {
     unsafe { sindovaleph_write_routes(room.as_mut_ptr(), room.len(), place, routes.as_ptr(), routes.len()) }
+}
+
+/// The route that begins at a place of option 121's value, refused by 2, 4, 12 and 10 in this order. None is found at the
+/// value's end.
+#[inline]
+pub fn route_from(value: &[u8], place: usize) -> ReadRoute {
+    unsafe { sindovaleph_route_from(value.as_ptr(), value.len(), place) }
+}
+
+/// The route at an index of option 121's value. All rows are checked first: refused by 2, by 12 or 10 of the first bad row,
+/// and then by 4 for the index.
+#[inline]
+pub fn route_at(value: &[u8], index: usize) -> ReadRoute {
+    unsafe { sindovaleph_route_at(value.as_ptr(), value.len(), index) }
+}
+
+/// How many routes option 121's value has, refused by 2, and by 12 or 10 of the first bad row.
+#[inline]
+pub fn count_routes(value: &[u8]) -> RouteCount {
+    unsafe { sindovaleph_count_routes(value.as_ptr(), value.len()) }
+}
+
+/// Option 33's value, written as option 121: refused by 2, 4 and 10, then by 18 of the first bad pair, then by 7 and 8 of
+/// the value made.
+#[inline]
+pub fn move_out(room: &mut [u8], place: usize, value: &[u8]) -> Written {
+    unsafe { sindovaleph_move_out(room.as_mut_ptr(), room.len(), place, value.as_ptr(), value.len()) }
+}
+
+/// Option 121's value, written as option 33: refused by 2 and 4, then by 12, 10, 18 or 19 of the first bad row, then by 7
+/// and 8 of the value made.
+#[inline]
+pub fn move_back(room: &mut [u8], place: usize, value: &[u8]) -> Written {
+    unsafe { sindovaleph_move_back(room.as_mut_ptr(), room.len(), place, value.as_ptr(), value.len()) }
 }
 
 /// The listing of a message as text. At place 0 a room of 65,535 bytes, the most that a room may have, takes the listing

@@ -169,6 +169,12 @@
 //! [`Writer::at`] writes behind a header that stands in the room, from 240 on. [`Writer::list`] writes many options in
 //! one call: all of them, or none where a row is refused, which [`RowRefused`] names.
 //!
+//! # Static routes, old and classless
+//!
+//! [`Routes`] reads the classless routes of option 121 (RFC 3442), each destination masked to its width. Stored profiles
+//! may still hold the static routes of option 33, which newer clients do not read: [`Writer::move_out`] writes their value
+//! as option 121, and [`Writer::move_back`] the other way.
+//!
 //! # A message as text
 //!
 //! [`listing()`] writes what `./list` prints, for logs and for people.
@@ -192,6 +198,7 @@
 //! | `DhcpOption::MessageType(MessageType::Ack)` | `Value::MessageType(message_types::ACK)` |
 //! | `DhcpOption::Hostname(String)` | `Value::Text(&str)` of an option with code `codes::HOSTNAME` |
 //! | `DhcpOption::Router(Vec<Ipv4Addr>)` | `Value::Addresses(list)` with code `codes::ROUTER`; `list.iter()` |
+//! | `DhcpOption::ClasslessStaticRoute(Vec<(Ipv4Net, Ipv4Addr)>)` | [`Routes::read`]`(opt.data())?`; `routes.iter()` |
 //! | `DhcpOption::Hostname("host".into()).encode(&mut e)?` | `writer.text(codes::HOSTNAME, "host")?` |
 //! | `DhcpOption::End.encode(&mut e)?` | `writer.close()?` |
 //!
@@ -266,6 +273,7 @@ pub mod message;
 pub mod names;
 pub mod options;
 pub mod refusal;
+pub mod routes;
 pub mod rows;
 mod shown;
 pub mod stream;
@@ -279,6 +287,7 @@ pub use message::{Message, xid};
 pub use names::{codes, flags, message_types, ops};
 pub use options::{Ending, Opt, Options, Stop};
 pub use refusal::{NoSuchNumber, OptRefused, Refusal, RowRefused};
+pub use routes::{RouteRow, RouteRows, Routes};
 pub use rows::{Listed, ReadRow, Row, list, read_list, read_list_strict};
 pub use stream::{Frames, Stream};
 pub use value::{Element, Elements, Kind, List, NodeType, Value, kind_of, read, read_strict};

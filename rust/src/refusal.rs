@@ -25,7 +25,7 @@ numbered! {
         NoRoom = 8,
         /// A typed write names a code of another kind.
         OtherKind = 9,
-        /// The value's length is wrong for its kind.
+        /// The value's length is wrong for its kind, or a route is cut.
         WrongLength = 10,
         /// Text is not UTF-8.
         NotUtf8 = 11,
@@ -41,6 +41,11 @@ numbered! {
         UnclearOverload = 16,
         /// A stream: the size of a frame is more than the buffer has.
         SizeAboveBuffer = 17,
+        /// A move between options 33 and 121: a destination, masked to its width, is 0.0.0.0 or has a first octet above
+        /// 223.
+        DestinationBarred = 18,
+        /// A move back to option 33: a route has another width than its masked destination gives it there.
+        NoOldForm = 19,
     }
 }
 
@@ -64,6 +69,8 @@ impl fmt::Display for Refusal {
             Refusal::FieldCut => "a field that holds options is cut",
             Refusal::UnclearOverload => "option 52 has more than one part or is not one byte of 1 to 3",
             Refusal::SizeAboveBuffer => "the size of a frame is more than the buffer has",
+            Refusal::DestinationBarred => "a destination to be moved is 0.0.0.0 or has a first octet above 223",
+            Refusal::NoOldForm => "a route has a width that no pair of option 33 stands for",
         })
     }
 }
@@ -133,11 +140,11 @@ impl From<OptRefused> for Refusal {
     }
 }
 
-/// What a number that crossed the boundary says: 0 is no refusal, and none is above 17.
+/// What a number that crossed the boundary says: 0 is no refusal, and none is above 19.
 #[inline]
 pub(crate) fn checked(number: u8) -> Result<(), Refusal> {
     match number {
         0 => Ok(()),
-        _ => Err(Refusal::from_number(number).unwrap_or(Refusal::SizeAboveBuffer)),
+        _ => Err(Refusal::from_number(number).unwrap_or(Refusal::NoOldForm)),
     }
 }

@@ -175,6 +175,66 @@ impl<'a> Writer<'a> {
         self.moved(written)
     }
 
+    /// Old static routes, moved to where newer clients read them: the value of an option 33, written as option 121.
+    ///
+    /// A pair is a destination and its router. The destination's first octet gives the width: 8 for 0 to 127, 16 for 128
+    /// to 191, 24 for 192 to 223; but one that has a bit behind that width is a host, of width 32.
+    ///
+    /// [`Refusal::TooLong`] is of the room or of `pairs`. A value that is no multiple of 8 bytes is
+    /// [`Refusal::WrongLength`], whatever its pairs are; then the first destination decides that is 0.0.0.0 or has a first
+    /// octet above 223, by [`Refusal::DestinationBarred`]. [`Refusal::ValueTooLong`] and [`Refusal::NoRoom`] are of the
+    /// value made, which may be longer or shorter than `pairs`. An empty value writes nothing. `pairs` and the room are
+    /// two slices: nothing is moved in place.
+    ///
+    /// Given room, [`Writer::move_back`] makes the same pairs of it again, where they are 4,080 bytes or fewer.
+    ///
+    /// ```
+    /// use sindovaleph::{Options, Refusal, Writer, codes};
+    ///
+    /// // A network and a host, as a stored profile has them.
+    /// let pairs = [10, 0, 0, 0, 192, 0, 2, 1, 172, 16, 5, 9, 192, 0, 2, 1];
+    /// let mut room = [0; 64];
+    /// let mut writer = Writer::new(&mut room);
+    /// writer.move_out(&pairs)?;
+    /// let area = writer.written();
+    /// assert_eq!(area, [121, 15, 8, 10, 192, 0, 2, 1, 32, 172, 16, 5, 9, 192, 0, 2, 1]);
+    ///
+    /// let mut join = [0; 64];
+    /// let routes = Options::new(area, &mut join).next().unwrap()?;
+    /// assert_eq!(routes.code(), codes::CLASSLESS_STATIC_ROUTE);
+    /// let mut old_room = [0; 64];
+    /// let mut writer = Writer::new(&mut old_room);
+    /// writer.move_back(routes.data())?;
+    /// assert_eq!(writer.written()[..2], [codes::STATIC_ROUTING_TABLE, 16]);
+    /// assert_eq!(writer.written()[2..], pairs);
+    ///
+    /// // Option 33 has no default route, and none to a host 10.0.0.0: that is a network of width 8 there.
+    /// assert_eq!(writer.move_back(&[0, 192, 0, 2, 1]), Err(Refusal::DestinationBarred));
+    /// assert_eq!(writer.move_back(&[32, 10, 0, 0, 0, 192, 0, 2, 1]), Err(Refusal::NoOldForm));
+    /// # Ok::<(), Refusal>(())
+    /// ```
+    #[inline]
+    pub fn move_out(&mut self, pairs: &[u8]) -> Result<(), Refusal> {
+        let written = calls::move_out(self.room, self.place, pairs);
+        self.moved(written)
+    }
+
+    /// Classless routes, moved back for older clients: the value of an option 121, written as option 33.
+    ///
+    /// A route moves only if its width is the one that [`Writer::move_out`] gives its destination, which is masked as in
+    /// [`Routes`](crate::Routes).
+    ///
+    /// [`Refusal::TooLong`] is of the room or of `routes`. Then the first bad row decides, by [`Refusal::WidthAbove32`],
+    /// by [`Refusal::WrongLength`] where it is cut, by [`Refusal::DestinationBarred`] for 0.0.0.0 or a first octet above
+    /// 223, or by [`Refusal::NoOldForm`] for another width, in this order. [`Refusal::ValueTooLong`] and
+    /// [`Refusal::NoRoom`] are of the value made, 8 bytes a route. An empty value writes nothing. `routes` and the room
+    /// are two slices: nothing is moved in place.
+    #[inline]
+    pub fn move_back(&mut self, routes: &[u8]) -> Result<(), Refusal> {
+        let written = calls::move_back(self.room, self.place, routes);
+        self.moved(written)
+    }
+
     /// An option for each row, as byte values out of `values`: all of them, or none. The answer is how many there are.
     ///
     /// The first row that is refused decides, as if each were written behind the one before. [`RowRefused`] has its

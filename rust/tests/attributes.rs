@@ -4,8 +4,8 @@
 #![deny(unreachable_patterns, unfulfilled_lint_expectations)]
 
 use sindovaleph::{
-    Chaddr, Ending, Kind, Listed, Message, Options, Overload, Refusal, Row, Stop, Stream, Value, Writer, codes, list,
-    read,
+    Chaddr, Ending, Kind, Listed, Message, Options, Overload, Refusal, Routes, Row, Stop, Stream, Value, Writer, codes,
+    list, read,
 };
 use std::ops::Deref;
 
@@ -14,7 +14,7 @@ fn is_known(refusal: Refusal) -> bool {
     match refusal {
         MessageTooShort | TooLong | ChaddrPastEnd | PastEnd | JoinTooShort | NoSuchCode | ValueTooLong => true,
         NoRoom | OtherKind | WrongLength | NotUtf8 | WidthAbove32 | OddPairs | UnclearYesNo => true,
-        FieldCut | UnclearOverload | SizeAboveBuffer => true,
+        FieldCut | UnclearOverload | SizeAboveBuffer | DestinationBarred | NoOldForm => true,
         _ => false,
     }
 }
@@ -163,6 +163,11 @@ fn drops_how_it_ended(stream: &Stream<'_>) {
     stream.is_between();
 }
 
+#[expect(unused_must_use)]
+fn drops_the_routes(routes: Routes<'_>) {
+    routes.iter();
+}
+
 #[test]
 fn an_answer_that_matters_is_not_dropped_unseen() {
     let mut rows = [Row::default()];
@@ -183,6 +188,7 @@ fn an_answer_that_matters_is_not_dropped_unseen() {
     drops_a_chunk(&mut stream);
     drops_a_frame(&mut stream);
     drops_how_it_ended(&stream);
+    drops_the_routes(Routes::read(&[]).unwrap());
     let listed: Listed = list(&[255], 0, &mut rows).unwrap();
     assert_eq!(listed.stop, Some(Stop::End));
 }

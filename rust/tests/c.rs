@@ -1,5 +1,5 @@
 //! The header for C and C++: it compiles by itself without a warning, its numbers are those of this crate, the examples
-//! walk, write and receive, NULL with length 0 is an empty slice, and a header of another version does not link.
+//! walk, write, receive and move, NULL with length 0 is an empty slice, and a header of another version does not link.
 
 mod common;
 
@@ -111,7 +111,7 @@ fn the_names_of_the_header_have_the_same_numbers() {
     says("STREAM", "Sizing".into(), Stream::SIZING);
     says("STREAM", "Filling".into(), Stream::FILLING);
     says("STREAM", "Shut".into(), Stream::SHUT);
-    assert_eq!(text.lines().count(), 1 + 17 + 5 + 16 + 4);
+    assert_eq!(text.lines().count(), 1 + 19 + 5 + 16 + 4);
     compiles(c_compiler().arg("-std=c11"), "numbers.c", &text);
 }
 
@@ -165,6 +165,16 @@ fn the_example_receives() {
     let refused = "a frame is refused by 1\n";
     let cut = "the stream ends within a frame: 2 of 244 bytes\n";
     assert_eq!(printed, format!("{message}{refused}{cut}"));
+}
+
+#[test]
+fn the_example_moves_out_and_back() {
+    let printed = printed_by("examples/move.c");
+    let out = "option 121: 8 10 192 0 2 1 32 172 16 5 9 192 0 2 1\n";
+    let routes = "10.0.0.0/8 via 192.0.2.1\n172.16.5.9/32 via 192.0.2.1\n";
+    let back = "option 33: 10 0 0 0 192 0 2 1 172 16 5 9 192 0 2 1\n";
+    let refused = "a default route is refused by 18\n";
+    assert_eq!(printed, format!("{out}{routes}{back}{refused}"));
 }
 
 /// The functions of the header that take a pointer.

@@ -3,7 +3,7 @@
 mod common;
 
 use common::message_with;
-use sindovaleph::{EntryRow, Message, Options, ReadRow, Route, Row, WriteRow, Writer, list, read, read_list};
+use sindovaleph::{EntryRow, Message, Options, ReadRow, Route, Routes, Row, WriteRow, Writer, list, read, read_list};
 use std::net::Ipv4Addr;
 
 #[test]
@@ -68,6 +68,13 @@ fn lists_are_shown_by_their_elements() {
     assert_eq!(format!("{pairs:?}"), "Ok(Pairs([(10.0.0.0, 192.0.2.1)]))");
     let Ok(sindovaleph::Value::U16s(list)) = read(25, &[0, 68, 1, 40]) else { panic!("25 is a list of numbers") };
     assert_eq!(format!("{list:?} {:?}", list.iter()), "[68, 296] [68, 296]");
+    let routes = Routes::read(&[8, 10, 192, 0, 2, 1, 0, 192, 0, 2, 2]).unwrap();
+    let first = "RouteRow { width: 8, destination: 10.0.0.0, gateway: 192.0.2.1 }";
+    let second = "RouteRow { width: 0, destination: 0.0.0.0, gateway: 192.0.2.2 }";
+    assert_eq!(format!("{routes:?}"), format!("[{first}, {second}]"));
+    let mut rows = routes.iter();
+    assert_eq!(rows.next(), routes.get(0).ok());
+    assert_eq!(format!("{rows:?}"), format!("[{second}]"));
 }
 
 #[test]

@@ -216,8 +216,8 @@ fn assert_each_stands<T: PartialEq + std::fmt::Debug>(of: &BTreeMap<String, T>, 
 
 #[test]
 fn the_declarations_are_found() {
-    assert_eq!(rust_structs().len(), 15);
-    assert_eq!(rust_functions().len(), 35);
+    assert_eq!(rust_structs().len(), 17);
+    assert_eq!(rust_functions().len(), 40);
     assert!(rattle_structs().len() >= 5 && rattle_functions().len() >= 22, "the parser finds what stands there");
 }
 
@@ -257,7 +257,7 @@ fn the_header_has_the_same_functions() {
 }
 
 /// The version of the boundary, by its name, and the fingerprint of what is declared under it.
-const VERSION: (&str, u64) = ("sindovaleph_boundary_4", 0xA45E_4F69_0F3E_D0BC);
+const VERSION: (&str, u64) = ("sindovaleph_boundary_5", 0x549D_EDB9_9052_88F9);
 
 const VERSION_BEGINS: &str = "sindovaleph_boundary_";
 
@@ -307,7 +307,7 @@ fn rows_have_the_names_and_the_order_of_what_they_hold() {
 
 #[test]
 fn sizes_and_offsets() {
-    let expected: [(&str, usize, usize, &[usize]); 15] = [
+    let expected: [(&str, usize, usize, &[usize]); 17] = [
         ("Fields", 40, 4, &[0, 4, 8, 12, 16, 20, 22, 24, 26, 28, 30, 31, 32, 33, 34, 35, 36, 37]),
         ("Field", 16, 8, &[0, 8]),
         ("Step", 32, 8, &[0, 1, 2, 8, 16, 24]),
@@ -321,6 +321,8 @@ fn sizes_and_offsets() {
         ("WriteRow", 24, 8, &[0, 8, 16]),
         ("WrittenRows", 24, 8, &[0, 8, 16]),
         ("Route", 12, 4, &[0, 4, 8]),
+        ("ReadRoute", 24, 8, &[0, 1, 2, 4, 8, 16]),
+        ("RouteCount", 16, 8, &[0, 8]),
         ("Stream", 6, 2, &[0, 1, 2, 4]),
         ("Received", 32, 8, &[0, 8, 16, 24]),
     ];
@@ -545,6 +547,31 @@ fn tables_cross() {
     assert_eq!(room, [0xEE; 16]);
     assert_eq!(write_list(&mut room, 3, &rows[..2], &[7, 8, 9]), WrittenRows { refused: 0, rows: 2, place: 12 });
     assert_eq!(room[2..13], [0xEE, 12, 2, 8, 9, 200, 3, 7, 8, 9, 0xEE]);
+}
+
+#[test]
+fn routes_cross() {
+    // A route of 9 bits with more behind them, which ends at 7, and a host's, which ends at 16.
+    let value = [9, 0x8A, 0xFF, 0x91, 0x92, 0x93, 0x94, 32, 0x0B, 0x82, 3, 4, 0x95, 0x96, 0x97, 0x98];
+    let first =
+        ReadRoute { refused: 0, found: true, width: 9, destination: 0x8A80_0000, gateway: 0x9192_9394, place: 7 };
+    let second = ReadRoute { width: 32, destination: 0x0B82_0304, gateway: 0x9596_9798, place: 16, ..first };
+    let none = ReadRoute { refused: 0, found: false, width: 0, destination: 0, gateway: 0, place: 16 };
+    assert_eq!((route_from(&value, 0), route_from(&value, 7), route_from(&value, 16)), (first, second, none));
+    let indexed = [first, second].map(|route| ReadRoute { place: 0, ..route });
+    assert_eq!([route_at(&value, 0), route_at(&value, 1)], indexed);
+    assert_eq!(route_at(&value, 2), ReadRoute { refused: 4, place: 0, ..none });
+    assert_eq!(route_from(&value, 17), ReadRoute { refused: 4, place: 17, ..none });
+    assert_eq!(count_routes(&value), RouteCount { refused: 0, count: 2 });
+    assert_eq!(count_routes(&value[..15]), RouteCount { refused: 10, count: 0 });
+    let pair = [0x8A, 0xFF, 0, 0, 0x91, 0x92, 0x93, 0x94];
+    let route = [16, 0x8A, 0xFF, 0x91, 0x92, 0x93, 0x94];
+    assert_eq!(at_three(|room, place| move_out(room, place, &pair)), [&[121, 7][..], &route].concat());
+    assert_eq!(at_three(|room, place| move_back(room, place, &route)), [&[33, 8][..], &pair].concat());
+    let mut room = [0xEE; 9];
+    assert_eq!(move_out(&mut room, 1, &pair), Written { refused: 8, place: 1 });
+    assert_eq!(move_back(&mut room, 2, &value), Written { refused: 19, place: 2 });
+    assert_eq!(room, [0xEE; 9]);
 }
 
 #[test]

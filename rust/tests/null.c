@@ -40,12 +40,18 @@ static void read_nothing(Empty none) {
     SindovalephValue raw = sindovaleph_read(61, none.bytes, 0, true);
     SindovalephValue address = sindovaleph_read(1, none.bytes, 0, false);
     SindovalephElement element = sindovaleph_element(3, none.bytes, 0, 0);
+    SindovalephReadRoute route = sindovaleph_route_from(none.bytes, 0, 0);
+    SindovalephReadRoute indexed = sindovaleph_route_at(none.bytes, 0, 0);
+    SindovalephRouteCount routes = sindovaleph_count_routes(none.bytes, 0);
     say("sindovaleph_header", fields.refused, fields.hlen, fields.chaddr_refused, fields.xid);
     say("sindovaleph_xid", xid.refused, xid.number, 0, 0);
     say("sindovaleph_is_utf8", sindovaleph_is_utf8(none.bytes, 0), 0, 0, 0);
     say("sindovaleph_read", raw.refused, raw.kind, raw.count, raw.number);
     say("sindovaleph_read", address.refused, address.kind, address.count, address.number);
     say("sindovaleph_element", element.refused, element.first, element.second, 0);
+    say("sindovaleph_route_from", route.refused, route.found, route.width, route.place);
+    say("sindovaleph_route_at", indexed.refused, indexed.found, indexed.width, indexed.place);
+    say("sindovaleph_count_routes", routes.refused, routes.count, 0, 0);
 }
 
 /* An area is walked with nothing to join in and no room for a row. */
@@ -77,6 +83,7 @@ static void receive(uint8_t *buffer, size_t buffer_len, const uint8_t *chunk, si
 
 /* A value is written to a room, of which so many bytes are lent. */
 static void write_values(uint8_t *to, size_t len) {
+    static const uint8_t pair[] = {10, 0, 0, 0, 192, 0, 2, 1}, route[] = {8, 10, 192, 0, 2, 1};
     say_written("sindovaleph_close", sindovaleph_close(to, len, 0));
     say_written("sindovaleph_write_address", sindovaleph_write_address(to, len, 0, 1, 7));
     say_written("sindovaleph_write_byte", sindovaleph_write_byte(to, len, 0, 23, 7));
@@ -88,6 +95,8 @@ static void write_values(uint8_t *to, size_t len) {
     say_written("sindovaleph_write_message_type", sindovaleph_write_message_type(to, len, 0, 53, 5));
     say_written("sindovaleph_write_three_bytes", sindovaleph_write_three_bytes(to, len, 0, 94, 1, 2, 3));
     say_written("sindovaleph_write_flag", sindovaleph_write_flag(to, len, 0, 80));
+    say_written("sindovaleph_move_out", sindovaleph_move_out(to, len, 0, pair, sizeof pair));
+    say_written("sindovaleph_move_back", sindovaleph_move_back(to, len, 0, route, sizeof route));
 }
 
 /* Nothing is written to a room, of which so many bytes are lent. */
@@ -104,6 +113,8 @@ static void write_nothing(Empty none, uint8_t *to, size_t len) {
     say_written("sindovaleph_write_u16s", sindovaleph_write_u16s(to, len, 0, 25, none.u16s, 0));
     say_written("sindovaleph_write_codes", sindovaleph_write_codes(to, len, 0, 55, none.bytes, 0));
     say_written("sindovaleph_write_routes", sindovaleph_write_routes(to, len, 0, none.routes, 0));
+    say_written("sindovaleph_move_out", sindovaleph_move_out(to, len, 0, none.bytes, 0));
+    say_written("sindovaleph_move_back", sindovaleph_move_back(to, len, 0, none.bytes, 0));
     say_written("sindovaleph_write_listing", sindovaleph_write_listing(to, len, 0, none.bytes, 0));
 }
 

@@ -5,7 +5,7 @@ use sindovaleph::{Kind, NoSuchNumber, OptRefused, RowRefused, Stop};
 use std::collections::BTreeSet;
 use std::error::Error;
 
-const ALL: [Refusal; 17] = [
+const ALL: [Refusal; 19] = [
     MessageTooShort,
     TooLong,
     ChaddrPastEnd,
@@ -23,10 +23,12 @@ const ALL: [Refusal; 17] = [
     FieldCut,
     UnclearOverload,
     SizeAboveBuffer,
+    DestinationBarred,
+    NoOldForm,
 ];
 
 #[test]
-fn numbers_are_1_to_17() {
+fn numbers_are_1_to_19() {
     for (refusal, number) in ALL.into_iter().zip(1..) {
         assert_eq!(refusal.number(), number);
         assert_eq!(Refusal::from_number(number), Some(refusal));
@@ -51,7 +53,7 @@ fn numbers_can_be_tried() {
 #[test]
 fn each_says_a_sentence_of_its_own() {
     let sentences: BTreeSet<String> = ALL.iter().map(Refusal::to_string).collect();
-    assert_eq!(sentences.len(), 17);
+    assert_eq!(sentences.len(), 19);
     assert!(sentences.iter().all(|sentence| sentence.contains(' ') && !sentence.ends_with('.')));
 }
 

@@ -31,6 +31,8 @@ fn writes() -> Vec<(Box<Write>, Vec<u8>)> {
         (Box::new(|writer| writer.u16s(25, &[68, 296])), vec![25, 4, 0, 68, 1, 40]),
         (Box::new(|writer| writer.codes(55, &[1, 3, 6])), vec![55, 3, 1, 3, 6]),
         (Box::new(move |writer| writer.routes(&[route])), vec![121, 6, 8, 10, 192, 0, 2, 1]),
+        (Box::new(|writer| writer.move_out(&[10, 0, 0, 0, 192, 0, 2, 1])), vec![121, 6, 8, 10, 192, 0, 2, 1]),
+        (Box::new(|writer| writer.move_back(&[8, 10, 192, 0, 2, 1])), vec![33, 8, 10, 0, 0, 0, 192, 0, 2, 1]),
         (Box::new(|writer| writer.close()), vec![255]),
     ]
 }

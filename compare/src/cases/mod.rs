@@ -3,6 +3,7 @@
 mod aggregate;
 mod listing;
 mod message;
+mod moves;
 mod rows;
 mod stream;
 mod values;
@@ -17,6 +18,7 @@ use rows::{MOST_ROWS, read_row_pattern, row_pattern};
 use sindovaleph::calls::{ReadRow, Row};
 use std::fmt::{Arguments, Debug};
 
+pub use moves::Way;
 pub use stream::{Cut, Refused, Streams};
 
 /// The most bytes of a stream that is lent.
@@ -36,7 +38,7 @@ pub struct Bench {
     join: Twins<u8>,
     room: Twins<u8>,
     buffer: Twins<u8>,
-    chunk: Twins<u8>,
+    given: Twins<u8>,
     rows: Twins<Row>,
     read_rows: Twins<ReadRow>,
     /// The value of the option that was found last.
@@ -53,7 +55,7 @@ impl Bench {
             join: Twins::new(2 * MOST_BYTES, byte_pattern),
             room: Twins::new(MOST_BYTES + 1, byte_pattern),
             buffer: Twins::new(2 * MOST_BYTES, byte_pattern),
-            chunk: Twins::new(MOST_STREAM, byte_pattern),
+            given: Twins::new(MOST_STREAM, byte_pattern),
             rows: Twins::new(MOST_ROWS, row_pattern),
             read_rows: Twins::new(MOST_ROWS, read_row_pattern),
             value: Vec::new(),
@@ -68,6 +70,20 @@ impl Bench {
         }
         if self.findings.cases.is_multiple_of(CASES_BETWEEN) {
             self.progress.tell(self.findings.cases, "cases");
+        }
+    }
+
+    /// Lends bytes that are only to be read, and says how many.
+    fn give(&mut self, bytes: &[u8]) -> usize {
+        self.given.library(bytes.len()).copy_from_slice(bytes);
+        self.given.paper(bytes.len()).copy_from_slice(bytes);
+        bytes.len()
+    }
+
+    /// So many bytes that were lent to be read have to be as they were.
+    fn is_as_given(&mut self, call: Arguments<'_>, len: usize) {
+        if !self.given.settle(0..len, len) {
+            self.findings.unexplained(call, format_args!("what was lent to be read is not as it was"));
         }
     }
 }

@@ -91,20 +91,16 @@ struct Came {
 impl Bench {
     /// One call over a chunk, with so many bytes of the buffer, in which all is left for the next one.
     fn receive_on(&mut self, stream: Stream, room: usize, chunk: &[u8]) -> Received {
-        let len = chunk.len();
-        self.chunk.library(len).copy_from_slice(chunk);
-        self.chunk.paper(len).copy_from_slice(chunk);
-        let ours = calls::receive(stream, self.buffer.library(room), self.chunk.library(len));
-        let said = paper::receive(stream, self.buffer.paper(room), self.chunk.paper(len));
+        let len = self.give(chunk);
+        let ours = calls::receive(stream, self.buffer.library(room), self.given.library(len));
+        let said = paper::receive(stream, self.buffer.paper(room), self.given.paper(len));
         let call = format_args!("receive from {stream:?}, a buffer of {room}, chunk {}", Bytes(chunk));
         self.same(call, &ours, &said);
         self.streams.count(&said);
         if !self.buffer.are_same(room) {
             self.findings.unexplained(call, format_args!("the buffer holds other bytes than the paper says"));
         }
-        if !self.chunk.settle(0..len, len) {
-            self.findings.unexplained(call, format_args!("the chunk is not as it was lent"));
-        }
+        self.is_as_given(call, len);
         said
     }
 

@@ -26,13 +26,18 @@ impl Bench {
     ) -> Written {
         let ours = library(self.room.library(room), place);
         let said = paper(self.room.paper(room), place);
+        self.wrote(call, (room, place), ours, said);
+        said
+    }
+
+    /// What a write answered has to be what the paper says, and so has what it left in the room.
+    pub(super) fn wrote(&mut self, call: Arguments<'_>, (room, place): (usize, usize), ours: Written, said: Written) {
         let call = format_args!("{call} at {place} of a room of {room}");
         self.same(call, &ours, &said);
         let written = if said.refused == 0 { place..said.place } else { 0..0 };
         if !self.room.settle(written, room) {
-            self.findings.unexplained(call, format_args!("the room holds other bytes than document 01 says"));
+            self.findings.unexplained(call, format_args!("the room holds other bytes than the paper says"));
         }
-        said
     }
 
     /// What the crate writes has to be what document 01 says; where document 01 refuses it, that is a known difference or the crate

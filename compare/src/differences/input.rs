@@ -6,6 +6,9 @@ use std::net::Ipv4Addr;
 /// The first bytes of the options of a message (RFC 2131, section 3).
 const MAGIC: [u8; 4] = [99, 130, 83, 99];
 
+/// The code of classless routes.
+pub const ROUTES_CODE: u8 = 121;
+
 /// How many bytes are shown whole.
 const MOST_SHOWN: usize = 12;
 
@@ -52,6 +55,8 @@ pub enum Input {
     Chunks { factor: usize },
     /// A route through 192.0.2.1, so many times.
     Routes { destination: [u8; 4], width: u8, count: usize },
+    /// A value of code 121, read as routes.
+    ReadRoutes { value: &'static [u8] },
     /// Part of a message, by the crate's owned type.
     OwnedMessage { len: usize, set: &'static [(usize, &'static [u8])], part: Part },
     /// An area, by the crate's owned list of options.
@@ -140,6 +145,7 @@ impl Display for Input {
             Input::Over { old } => format!("1.2.3.4 to code 1, over {} of 9", count(old)),
             Input::Chunks { factor } => format!("0.0.0.1 to code 3, {} an element", count(factor)),
             Input::Routes { destination, width, count } => table(destination, width, count),
+            Input::ReadRoutes { value } => option(ROUTES_CODE, value) + ", as routes",
             Input::OwnedOptions { area } => shown(area),
             Input::NoOptions => "no options, written".into(),
             Input::Name => "the name a to code 81, no E bit".into(),

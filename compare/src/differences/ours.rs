@@ -2,7 +2,8 @@
 
 use super::input::{ENOUGH, Input, Part, count, message, padded, shown};
 use crate::paper::{AREA, CHADDR, SNAME};
-use sindovaleph::calls::{self, Fields, Route, Step, Value, Written};
+use sindovaleph::calls::{self, Fields, ReadRoute, Route, RouteCount, Step, Value, Written};
+use std::net::Ipv4Addr;
 
 /// The port's word where it has no such function.
 const NOT_PORTED: &str = "not ported";
@@ -45,6 +46,7 @@ pub fn answer(input: &Input) -> String {
         }
         Input::Over { old } => over(old),
         Input::Routes { destination, width, count } => routes(destination, width, count),
+        Input::ReadRoutes { value } => read_routes(value),
         Input::NoOptions => written(|room| calls::close(room, 0)),
         Input::OwnedMessage { .. } | Input::OwnedOptions { .. } => NOT_PORTED.into(),
         Input::Chunks { .. } | Input::Name | Input::Status { .. } => NOT_PORTED.into(),
@@ -159,6 +161,23 @@ fn written(write: impl FnOnce(&mut [u8]) -> Written) -> String {
 fn routes(destination: [u8; 4], width: u8, times: usize) -> String {
     let route = Route { width, destination: u32::from_be_bytes(destination), gateway: 0xc000_0201 };
     written(|room| calls::write_routes(room, 0, &vec![route; times]))
+}
+
+/// A route that was read, in words.
+fn route(ReadRoute { width, destination, gateway, .. }: ReadRoute) -> String {
+    let [destination, gateway] = [destination, gateway].map(Ipv4Addr::from);
+    format!("{destination}/{width} through {gateway}")
+}
+
+/// All routes of a value of code 121.
+fn read_routes(value: &[u8]) -> String {
+    match calls::count_routes(value) {
+        RouteCount { refused: 0, count: 0 } => "no routes".into(),
+        RouteCount { refused: 0, count } => {
+            (0..count).map(|index| route(calls::route_at(value, index))).collect::<Vec<_>>().join("; ")
+        }
+        RouteCount { refused, .. } => format!("refused {refused}"),
+    }
 }
 
 /// An address written into a room of old bytes.

@@ -1,6 +1,6 @@
 //! What the crate answers, in its own words.
 
-use super::input::{Input, Part, Path, count, message, padded, shown};
+use super::input::{Input, Part, Path, ROUTES_CODE, count, message, padded, shown};
 use crate::theirs::caught;
 use dhcproto::v4::borrowed::{DhcpOption as Raw, DhcpOptionIterator, Message};
 use dhcproto::v4::fqdn::{ClientFQDN, FqdnFlags};
@@ -38,6 +38,7 @@ fn asked(input: &Input) -> String {
         Input::Over { old } => over(old),
         Input::Chunks { factor } => chunks(factor),
         Input::Routes { destination, width, count } => routes(destination, width, count),
+        Input::ReadRoutes { value } => told(typed(ROUTES_CODE, value)),
         Input::OwnedMessage { len, set, ref part } => owned_part_of(&message(len, set), part),
         Input::OwnedOptions { area } => owned_options(area),
         Input::NoOptions => written(|e| DhcpOptions::new().encode(e)),

@@ -1,10 +1,11 @@
-//! The rules of document 01, and those of tickets 1, 3, 4 and 5 of document 02, written plainly: what each call has to answer, and what it
-//! leaves in lent memory. Nothing here calls the library or the crate; only the shapes of the answers are the boundary's.
+//! The rules of document 01, and those of tickets 1, 3, 4, 5 and 6 of document 02, written plainly: what each call has to answer, and what
+//! it leaves in lent memory. Nothing here calls the library or the crate; only the shapes of the answers are the boundary's.
 
 mod aggregate;
 mod header;
 mod kinds;
 mod listing;
+mod moves;
 mod rows;
 mod stream;
 mod text;
@@ -16,6 +17,7 @@ pub use aggregate::{entries, entry, find_code, overload};
 pub use header::{AREA, CHADDR, CHADDR_END, FILE, FILE_END, SNAME, area, header, xid};
 pub use kinds::{element_size, kind_of};
 pub use listing::{listed_address, listed_option, listed_stop, no_listing};
+pub use moves::{count_routes, move_back, move_out, route_at, route_from, width_for};
 pub use rows::{list, read_list, write_list};
 pub use stream::{Uncut, receive, uncut};
 pub use text::is_utf8;

@@ -1,8 +1,10 @@
-//! How the cost grows: areas from small to the largest, full of one thing each; and RFC 3396's reading of the longest messages.
+//! How the cost grows: areas from small to the largest, full of one thing each; RFC 3396's reading of the longest messages; and the longest
+//! profiles of routes.
 
 use super::aggregate;
 use super::case::{Case, Side, Sink, Unit};
 use super::inputs::{LENGTHS, Shape, USUAL, area_in_parts, usual_area};
+use super::moves;
 use super::walk::{by_crate, by_step};
 use crate::paper::MOST_BYTES;
 use dhcproto::v4::borrowed::DhcpOptionIterator;
@@ -99,5 +101,6 @@ pub fn cases() -> Vec<Case> {
         by_steps(format!("{count} {parts} of 255, by step"), &area_in_parts(count))
     }));
     cases.extend(aggregate::growth());
+    cases.extend(moves::growth());
     cases
 }

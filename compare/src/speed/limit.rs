@@ -1,7 +1,7 @@
 //! The limit of what is measured: the calls of `sindovaleph::calls` by hand-written C, `limit/limit.c`. It is there where a C compiler
 //! was, when this program was built.
 
-use sindovaleph::calls::{Listed, ReadRow, Row, Step, Value};
+use sindovaleph::calls::{Listed, ReadRow, Row, Step, Value, Written};
 
 unsafe extern "C" {
     fn limit_is_utf8(text: *const u8, text_len: usize) -> bool;
@@ -16,6 +16,8 @@ unsafe extern "C" {
         numbers: usize,
         strict: bool,
     ) -> Listed;
+    fn limit_move_out(room: *mut u8, room_len: usize, place: usize, value: *const u8, value_len: usize) -> Written;
+    fn limit_move_back(room: *mut u8, room_len: usize, place: usize, value: *const u8, value_len: usize) -> Written;
 }
 
 /// How many numbers rows have.
@@ -44,6 +46,14 @@ pub fn list(area: &[u8], place: usize, rows: &mut [Row]) -> Listed {
 
 pub fn read_list(area: &[u8], place: usize, rows: &mut [ReadRow], strict: bool) -> Listed {
     unsafe { limit_read_list(area.as_ptr(), area.len(), place, rows.as_mut_ptr().cast(), numbers(rows), strict) }
+}
+
+pub fn move_out(room: &mut [u8], place: usize, value: &[u8]) -> Written {
+    unsafe { limit_move_out(room.as_mut_ptr(), room.len(), place, value.as_ptr(), value.len()) }
+}
+
+pub fn move_back(room: &mut [u8], place: usize, value: &[u8]) -> Written {
+    unsafe { limit_move_back(room.as_mut_ptr(), room.len(), place, value.as_ptr(), value.len()) }
 }
 
 #[cfg(test)]
@@ -109,5 +119,37 @@ mod tests {
         for text in (0..5).flat_map(|len| strings(BYTES, len)) {
             assert_eq!(calls::is_utf8(&text), is_utf8(&text), "{text:?}");
         }
+    }
+
+    /// A move by both sides, in a room of this size.
+    fn same_moves(value: &[u8], room: usize, place: usize) {
+        let (mut ours, mut theirs) = (vec![7; room], vec![7; room]);
+        let moves = [calls::move_out(&mut ours, place, value), calls::move_back(&mut ours, place, value)];
+        let said = [move_out(&mut theirs, place, value), move_back(&mut theirs, place, value)];
+        assert_eq!((moves, ours), (said, theirs), "{value:?} {place} {room}");
+    }
+
+    #[test]
+    fn the_moves_answer_as_the_library_does() {
+        for value in (0..7).flat_map(|len| strings(&[0, 1, 8, 10, 33, 224], len)) {
+            for (room, place) in [(0, 0), (12, 0), (12, 3), (2, 3)] {
+                same_moves(&value, room, place);
+            }
+        }
+        let pair = |first: u8, behind: u8| [first, behind, 0, 0, 192, 0, 2, 1];
+        let route =
+            |width: u8, first: u8| [&[width, first, 0, 0, 0][..=usize::from(width / 8)], &[192, 0, 2, 1]].concat();
+        for first in 0..=255 {
+            (0..2).for_each(|behind| same_moves(&pair(first, behind), 20, 1));
+            [8, 16, 24, 32].iter().for_each(|&width| same_moves(&route(width, first), 20, 1));
+        }
+        for count in (0..90).chain(450..460).chain(505..515).chain(675..685) {
+            for value in [pair(10, 0).repeat(count), pair(10, 1).repeat(count), route(8, 10).repeat(count)] {
+                same_moves(&value, 5_000, 0);
+                same_moves(&value, value.len(), 0);
+            }
+        }
+        same_moves(&[0; 65_536], 9, 10);
+        same_moves(&[0; 8], 65_536, 70_000);
     }
 }

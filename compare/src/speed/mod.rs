@@ -1,7 +1,7 @@
 //! How fast the library and the crate are, beside hand-written C as the limit: the same inputs through all, in one process, answers
 //! compared first.
-//! `walk`, `aggregate`, `real`, `typed`, `texts`, `header`, `writing`, `stream` and `growth` have the cases; `clock` and `count` measure
-//! them.
+//! `walk`, `aggregate`, `real`, `typed`, `texts`, `header`, `writing`, `moves`, `stream` and `growth` have the cases; `clock` and `count`
+//! measure them.
 
 mod aggregate;
 pub mod arguments;
@@ -15,6 +15,7 @@ mod inputs;
 mod limit;
 mod machine;
 pub mod measuring;
+mod moves;
 mod page;
 mod real;
 mod stream;
@@ -40,6 +41,7 @@ fn cases(files: &[PathBuf]) -> Result<Vec<Case>, String> {
         writing::cases(),
         header::kinds(),
         writing::routes(),
+        moves::cases(),
         stream::cases(),
     ];
     Ok(themes.into_iter().flatten().collect())

@@ -51,6 +51,14 @@ the header of what it hands out. The crate has no such reader: its columns are a
 buffer, in one piece or in two, by one who knows where the message begins and how long it is. So the ratio says how many such copies a
 message costs, and there is no target. The stream has about 20,000 bytes, or two messages of 65,535; it begins at a page, and the buffer
 in the middle of one. A long copy can be one instruction that is repeated: it is counted for each byte.
+
+A profile is 450 pairs of option 33, 3,600 bytes: networks of the three classes in turn, which are 3,150 bytes as routes of option 121;
+or hosts, which are 4,050. To read it is to join option 121, to count its routes and to read each by a call of `route_from`; the crate's
+side is its walk and its own type of the option, whose destinations have no bits to mask here. To move it is one call of `move_out` or
+of `move_back`, or one of each: all rows are checked, and the other option is written. The crate has no moves: its columns are the
+library's own writing of the same bytes as values, by `write_bytes` of the routes to code 121, of the pairs to code 33, or of both. Such
+a value is copied many bytes at a time, while a move looks at each row; the ratio says how many such writes a move costs, and there is no
+target. A profile begins at a page, and the room in the middle of one.
 ";
 
 /// What stands before the table of what was before.
@@ -77,10 +85,13 @@ and are shorter, it is an option. These, and options of one byte, are of two cod
 \"cut\" is the same with a last part that is not whole, and \"parts of 255\" are one option that `step` joins. The crate stands beside it
 for who wants to know; there is no target between them here.
 
-The last rows are RFC 3396's reading of whole messages, by one call of `find` for the last code or by one call of `entries`. The
+Behind them stands RFC 3396's reading of whole messages, by one call of `find` for the last code or by one call of `entries`. The
 ratio is against the message of the twelve options, read the same way, and the unit is a byte of the fields that are read. The
 others have 65,535 bytes: 32,647 empty parts of one code; a part of 255 bytes of each code; and empty parts of all 254 codes in turn,
-32,638 of them. In the last two, option 52 names file and sname too, which are Pads. The crate's side is gathered by hand, as above.
+32,638 of them. In the latter two, option 52 names file and sname too, which are Pads. The crate's side is gathered by hand, as above.
+
+The last rows are profiles of networks: 51 pairs, and 510, the most that go both ways. The ratio is against the former, moved or read
+the same way, and the unit is a byte of the pairs, or of the routes that are read. The crate's columns are as above.
 ";
 
 /// How to read it.

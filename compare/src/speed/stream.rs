@@ -24,7 +24,7 @@ struct Lent {
 }
 
 /// Bytes at a place of a page, so that what a copy takes is no luck of an allocation.
-fn placed(bytes: &[u8], place: usize) -> &'static mut [u8] {
+pub fn placed(bytes: &[u8], place: usize) -> &'static mut [u8] {
     let memory = vec![0; bytes.len() + PAGE].leak();
     let begin = (PAGE + place - memory.as_ptr().addr() % PAGE) % PAGE;
     let placed = &mut memory[begin..begin + bytes.len()];

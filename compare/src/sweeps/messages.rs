@@ -1,6 +1,6 @@
 //! Random messages: composed of plausible options, then damaged.
 
-use super::{aggregate, made, streams, written};
+use super::{aggregate, made, moves, streams, written};
 use crate::cases::Bench;
 use crate::paper::{MOST_BYTES, element_size, kind_of};
 use crate::random::Random;
@@ -10,6 +10,9 @@ const LARGE_ONCE_IN: usize = 100;
 
 /// With one message in so many comes a stream.
 const STREAM_ONCE_IN: u64 = 20;
+
+/// With one message in so many come lists that are moved.
+const MOVES_ONCE_IN: u64 = 4;
 
 /// Texts of every width of character.
 const TEXTS: [&str; 5] = ["host-17", "boot.example.net", "café", "€uro", "mail😀"];
@@ -118,11 +121,12 @@ fn damage(random: &mut Random, message: &mut Vec<u8>) {
 }
 
 /// So many random messages, half of them damaged, and with each a random write of one option and of rows of them; with every second also
-/// a message whose options stand in several fields, and with every twentieth a stream.
+/// a message whose options stand in several fields, with every fourth lists of routes and of pairs, and with every twentieth a stream.
 pub fn random(bench: &mut Bench, count: u64, seed: u64) {
     let mut random = Random::new(seed);
     let mut random_rows = Random::new(!seed);
     let mut random_fields = Random::new(seed.rotate_left(32) ^ 3396);
+    let mut random_moves = Random::new(seed.rotate_left(32) ^ 3442);
     let mut random_streams = Random::new(seed.rotate_left(32) ^ 6926);
     let mut message = Vec::new();
     for number in 0..count {
@@ -138,6 +142,9 @@ pub fn random(bench: &mut Bench, count: u64, seed: u64) {
         bench.message(&message, &places);
         if number % 2 == 0 {
             aggregate::one(&mut random_fields, bench);
+        }
+        if number % MOVES_ONCE_IN == 0 {
+            moves::one(&mut random_moves, bench);
         }
         if number % STREAM_ONCE_IN == 0 {
             streams::one(&mut random_streams, bench);

@@ -6,6 +6,7 @@ mod headers;
 mod limits;
 mod made;
 mod messages;
+mod moves;
 mod routes;
 mod rows;
 mod streams;
@@ -21,13 +22,14 @@ type Sweep = fn(&mut Bench);
 
 /// Everything that is gone over whole.
 pub fn whole(bench: &mut Bench) {
-    let sweeps: [(&str, Sweep); 10] = [
+    let sweeps: [(&str, Sweep); 11] = [
         ("short areas", areas::sweep),
         ("headers", headers::sweep),
         ("texts", texts::sweep),
         ("typed reading", values::sweep),
         ("writing", writes::sweep),
         ("routes", routes::sweep),
+        ("moves", moves::sweep),
         ("rows", rows::sweep),
         ("RFC 3396's reading", aggregate::sweep),
         ("streams", streams::sweep),

@@ -27,7 +27,7 @@ module _ (w : Write) (room : List ℕ) (place : ℕ) where
   writes room′ to e l = record { told = sym e; left = sym l }
 
 -- back from what is said to who said it
-says-one : (r q : Written) → says r ≡ says q → r ≡ q
+pub says-one : (r q : Written) → says r ≡ says q → r ≡ q
 says-one (To a) (To b) e = cc
 says-one (To a) (Refused b) e = cc
 says-one (Refused a) (To b) e = cc

@@ -3,8 +3,9 @@
 use mathlib.Core.Path.{_≡_, refl, sym, _∙_, ap}
 use mathlib.Core.List.{List, [], _∷_, _++_}
 use Prim.Native.Nat.{ℕ, zero, suc, _+_, _*_, _/_, _%_, _^_, _≤_, _<_}
-use native.Mathlib.Nat.{pow-succ', add-mul, mul-assoc, mod-eq-of-lt}
+use native.Mathlib.Nat.{pow-succ', add-comm, suc-add, add-mul, mul-assoc, mod-eq-of-lt, mul-div-cancel, div-div-eq-div-mul}
 use native.Mathlib.Omega.{arith}
+use lib.Pow.{pow-add}
 use lib.Arith.{mod-mul, digits-lt, digits-div, digits-mod}
 use lib.Dec.{lit<}
 use lib.ListN.{length, getD, take, drop, length-drop, take-append-drop}
@@ -91,3 +92,21 @@ next-of-four n k h =
     let c : n / 256 % 256 ≡ r / 65536 % 256 = omega arith in
     let d : n / 1 % 256 ≡ r / 256 % 256 = omega arith in
     ap (take (suc k)) (λ i. high ∷ b i ∷ c i ∷ d i ∷ []) ∙ ap (λ (l : List ℕ). high ∷ l) (take-take k 3 (digits 4 r) h)
+
+-- a number by its first bytes and those behind them
+pub number-split : (a b : List ℕ) → number (a ++ b) ≡ number a * 256 ^ length b + number b
+number-split a b = from-split 0 a ∙ number-from (number a) b
+  where
+    from-split : (h : ℕ) (a : List ℕ) → numberFrom h (a ++ b) ≡ numberFrom (numberFrom h a) b
+    from-split h [] = refl
+    from-split h (x ∷ a) = from-split (h * 256 + x) a
+
+-- the first bytes of a number that ends in so many zero bytes
+pub high-digits : (n m a : ℕ) → take n (digits (n + m) (a * 256 ^ m)) ≡ digits n a
+high-digits zero m a = refl
+high-digits (suc n) m a =
+    let up : a * 256 ^ m / 256 ^ (n + m) ≡ a / 256 ^ n =
+    ap (λ (k : ℕ). a * 256 ^ m / k) (ap (λ (k : ℕ). 256 ^ k) (add-comm n m) ∙ pow-add 256 m n)
+    ∙ sym (div-div-eq-div-mul (a * 256 ^ m) (256 ^ m) (256 ^ n))
+    ∙ ap (λ (k : ℕ). k / 256 ^ n) (mul-div-cancel a (some m)) in
+    rw (suc-add n m) (λ i. up i % 256 ∷ high-digits n m a i)

@@ -24,8 +24,11 @@ use Rattle.rfc.specs.Portions.{behindCode, nextPortion, ahead, goesOn, portions
 use Rattle.rfc.specs.Aggregate.{fieldsOf, optionsRead, overloads, unclearOverload, overload, namesFile, namesSname, readNamed, fileRead, snameRead, fieldChecks, aggregate, codesOf, behindLast, optionFrom, optionOf, aggregateChecks, overloadOf, findChecks, find, entry, optionsFrom, entries}
 use Rattle.rfc.specs.Modes.{valuesIn, atContinuation, atEnd}
 use Rattle.rfc.specs.Stream.{Sendable, tooLarge, frame, handing, framesIn, frames, handOut, gather, endSize, startSize, receive, isShut, drainIn, drain, drainAll}
+use Rattle.rfc.specs.Strung.{allChecks, allBytes, strung, writeStrung}
+use Rattle.rfc.specs.Classless.{masked, asRead, routeIn, behindWidth, rowChecks, routeRowsIn, routeRows, allRowChecks, allRoutes, readRoutes, nth, routeAt, routeAhead, routeFrom}
+use Rattle.rfc.specs.Moves.{classes, widthFor, barred, pairRoute, routeOut, pairOut, outRows, outward, oldFormChecks, rowBack, backRows, backward, lentChecks, pairsChecks, moveOut, moveBack}
 use Rattle.promises.specs.Order.{follows}
-use Rattle.promises.specs.Worked.{abc, least, OfGeneral, OfNumbers, OfHeader, OfWalk, OfKinds, OfText, OfValues, OfWriting, OfTyped, OfRoutes, OfLists, OfPortions, OfOverload, OfAggregate, OfFrames, OfStream}
+use Rattle.promises.specs.Worked.{abc, least, OfGeneral, OfNumbers, OfHeader, OfWalk, OfKinds, OfText, OfValues, OfWriting, OfTyped, OfRoutes, OfLists, OfPortions, OfOverload, OfAggregate, OfFrames, OfStream, OfStrung, OfClassless, OfRule, OfMoves}
 
 pub of-general : OfGeneral
 unfolding over piecesIn pieces within lookup numberAt
@@ -102,3 +105,41 @@ of-frames = (refl, refl, refl, (sendable, (sendable, tt)), refl, refl, refl, ref
 pub of-stream : OfStream
 unfolding over tooShort checked tooLarge frame handing handOut gather endSize startSize receive isShut drainIn drain drainAll
 of-stream = (refl, refl, refl, refl, refl, refl, refl, refl, refl, refl, refl, refl, refl, refl, refl, refl, refl, refl, (lit< tt, lit≤ tt))
+
+pub of-strung : OfStrung
+unfolding piecesIn pieces checked firstRefusal partsOf encode allChecks allBytes strung writeStrung
+of-strung = (refl, refl, refl, refl, refl)
+
+pub of-classless : OfClassless
+unfolding andThen tooLong pastEnd checked firstRefusal significant masked asRead routeIn behindWidth rowChecks routeRowsIn routeRows allRowChecks allRoutes readRoutes nth routeAt routeAhead routeFrom
+of-classless = (
+  refl,
+  refl,
+  (lit≤ tt, lit< tt, lit< tt),
+  refl,
+  refl,
+  refl,
+  refl,
+  refl,
+  refl,
+  refl,
+  refl,
+  refl,
+  refl,
+  refl,
+  refl,
+  refl,
+  refl,
+  refl,
+  refl,
+  refl,
+  refl,
+)
+
+pub of-rule : OfRule
+unfolding within lookup masked classes widthFor barred
+of-rule = (refl, refl, refl, refl, refl, refl, refl, refl, refl, refl, refl, refl, refl, refl, refl, refl)
+
+pub of-moves : OfMoves
+unfolding over piecesIn pieces within lookup tooLong pastEnd tooMuch noRoom checked firstRefusal sizes sizeOf partsOf encode writeChecks answerTo roomLeft roomAfter partSize significant routeBytes masked routeIn behindWidth rowChecks routeRowsIn routeRows allChecks allBytes strung writeStrung classes widthFor barred pairRoute routeOut pairOut outRows outward oldFormChecks rowBack backRows backward lentChecks pairsChecks moveOut moveBack
+of-moves = (refl, refl, refl, refl, refl, refl, refl, refl, refl, refl, refl, refl, refl, refl, refl, refl, refl, refl, refl, refl, refl, refl, refl, refl, refl, refl, refl, refl)

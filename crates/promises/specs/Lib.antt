@@ -11,3 +11,4 @@ pub mod Worked
 pub mod Aggregate
 pub mod Overloaded
 pub mod Stream
+pub mod Moves

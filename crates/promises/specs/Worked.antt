@@ -1,5 +1,5 @@
--- The worked examples of docs/READING.md, of its base, of RFC 3396's reading and of a stream, a statement for each table: each example is
--- computed from the definitions.
+-- The worked examples of docs/READING.md, of its base, of RFC 3396's reading, of a stream and of routes that are read and moved, a statement
+-- for each table: each example is computed from the definitions.
 -- `tools/reading` holds the page against this file.
 -- Assumes nothing.
 use Prim.Native.Nat.{ℕ, _+_}
@@ -36,6 +36,9 @@ use Rattle.promises.specs.Order.{follows}
 use Rattle.promises.specs.Lists.{listed}
 use Rattle.promises.specs.Examples.{via}
 use Rattle.promises.specs.Incident.{incident}
+use Rattle.rfc.specs.Strung.{RowMade, allBytes, allChecks, strung, writeStrung}
+use Rattle.rfc.specs.Classless.{Fitting, allRoutes, allRowChecks, asRead, behindWidth, masked, noRoute, nth, readRoutes, route, routeAhead, routeAt, routeFrom, routeIn, routeRows, routeRowsIn, rowChecks}
+use Rattle.rfc.specs.Moves.{backRows, backward, barred, classes, lentChecks, moveBack, moveOut, octet, oldFormChecks, outRows, outward, pairOut, pairRoute, pairsChecks, routeOut, rowBack, widthFor}
 use Rattle.rfc.specs.Stream.{Fits, Sendable, between, drain, drainAll, drainIn, endSize, filling, frame, framed, frames, framesIn, gather, handOut, handing, isShut, receive, sent, shut, sizing, startSize, taken, tooLarge, yields}
 
 -- a value of a kind that holds this
@@ -366,3 +369,112 @@ OfStream =
     × (drainAll between (replicate 240 9) ((0 ∷ []) ∷ (241 ∷ []) ∷ (0 ∷ 0 ∷ []) ∷ []) ≡ yields (refused 17 ∷ []) shut (replicate 240 9))
     × (drainAll between (replicate 300 9) ((1 ∷ 0 ∷ replicate 255 7) ∷ [] ∷ (7 ∷ 0 ∷ 1 ∷ 8 ∷ []) ∷ []) ≡ yields (given longer ∷ refused 1 ∷ []) between (8 ∷ replicate 255 7 ++ replicate 44 9))
     × (Fits (9 ∷ 9 ∷ []) (filling 2 1))
+
+-- a row that is good, and one that is refused
+abbrev pub good : RowMade
+good = record { checks = check false 18 ∷ []; bytes = 7 ∷ [] }
+
+abbrev pub bad : RowMade
+bad = record { checks = check false 18 ∷ check true 19 ∷ []; bytes = 8 ∷ [] }
+
+abbrev pub OfStrung : Type 0
+OfStrung =
+    (firstRefusal (allChecks (good ∷ bad ∷ [])) ≡ 19)
+    × (allBytes (good ∷ bad ∷ []) ≡ 7 ∷ 8 ∷ [])
+    × (strung (good ∷ good ∷ []) ≡ given (7 ∷ 7 ∷ []))
+    × (strung (good ∷ bad ∷ []) ≡ refused 19)
+    × (writeStrung [] 2 33 (good ∷ good ∷ good ∷ []) .bytes ≡ 33 ∷ 2 ∷ 7 ∷ 7 ∷ 33 ∷ 1 ∷ 7 ∷ [])
+
+-- 10.0.0.0 by its network, and the default route, each through 192.0.2.1
+abbrev pub ten : List ℕ
+ten = 8 ∷ 10 ∷ 192 ∷ 0 ∷ 2 ∷ 1 ∷ []
+
+abbrev pub default : List ℕ
+default = 0 ∷ 192 ∷ 0 ∷ 2 ∷ 1 ∷ []
+
+abbrev pub OfClassless : Type 0
+OfClassless =
+    (masked 25 0x81d2b184 ≡ 0x81d2b180)
+    × (asRead (via 8 0x0a0b0c0d) ≡ via 8 0x0a000000)
+    × (Fitting (via 32 0xffffffff))
+    × (behindWidth 9 ≡ 6)
+    × (routeIn 9 (10 ∷ 255 ∷ 192 ∷ 0 ∷ 2 ∷ 1 ∷ []) ≡ via 9 0x0a800000)
+    × (firstRefusal (rowChecks 33 []) ≡ 12)
+    × (firstRefusal (rowChecks 8 (0 ∷ 1 ∷ 2 ∷ 3 ∷ [])) ≡ 10)
+    × (allRoutes (routeRowsIn 1 (ten ++ default)) ≡ via 8 0x0a000000 ∷ [])
+    × (allRoutes (routeRows (ten ++ default)) ≡ via 8 0x0a000000 ∷ via 0 0 ∷ [])
+    × (firstRefusal (allRowChecks (routeRows (ten ++ 33 ∷ []))) ≡ 12)
+    × (readRoutes (ten ++ default) ≡ given (via 8 0x0a000000 ∷ via 0 0 ∷ []))
+    × (readRoutes (25 ∷ 129 ∷ 210 ∷ 177 ∷ 132 ∷ 192 ∷ 0 ∷ 2 ∷ 1 ∷ []) ≡ given (via 25 0x81d2b180 ∷ []))
+    × (readRoutes [] ≡ given [])
+    × (readRoutes (ten ++ 8 ∷ 0 ∷ 1 ∷ 2 ∷ 3 ∷ []) ≡ refused 10)
+    × (nth 1 (via 8 0 ∷ via 9 0 ∷ []) ≡ given (via 9 0))
+    × (routeAt 1 ten ≡ refused 4)
+    × (routeAt 0 (ten ++ 33 ∷ []) ≡ refused 12)
+    × (routeAhead 6 [] ≡ given noRoute)
+    × (routeFrom (ten ++ default) 6 ≡ given (route (via 0 0) 11))
+    × (routeFrom ten 6 ≡ given noRoute)
+    × (routeFrom ten 7 ≡ refused 4)
+
+-- 10.0.0.0 through 192.0.2.1 as a pair, 172.16.0.0 and 10.1.0.0 with it, and a host's address
+abbrev pub tenPair : List ℕ
+tenPair = 10 ∷ 0 ∷ 0 ∷ 0 ∷ 192 ∷ 0 ∷ 2 ∷ 1 ∷ []
+
+abbrev pub twoPairs : List ℕ
+twoPairs = 172 ∷ 16 ∷ 0 ∷ 0 ∷ 192 ∷ 0 ∷ 2 ∷ 1 ∷ 10 ∷ 1 ∷ 0 ∷ 0 ∷ 192 ∷ 0 ∷ 2 ∷ 1 ∷ []
+
+abbrev pub tenHost : List ℕ
+tenHost = 32 ∷ 10 ∷ 0 ∷ 0 ∷ 0 ∷ 192 ∷ 0 ∷ 2 ∷ 1 ∷ []
+
+abbrev pub zeros : List ℕ
+zeros = replicate 12 0
+
+abbrev pub OfRule : Type 0
+OfRule =
+    (octet 0xe0000001 ≡ 224)
+    × (lookup 32 classes 127 ≡ 8)
+    × (lookup 32 classes 128 ≡ 16)
+    × (lookup 32 classes 191 ≡ 16)
+    × (lookup 32 classes 192 ≡ 24)
+    × (lookup 32 classes 223 ≡ 24)
+    × (widthFor 0x0a000000 ≡ 8)
+    × (widthFor 0x0a000100 ≡ 32)
+    × (widthFor 0xac100000 ≡ 16)
+    × (widthFor 0xac100001 ≡ 32)
+    × (widthFor 0xc0a80700 ≡ 24)
+    × (widthFor 0xc0a80701 ≡ 32)
+    × (widthFor 0xe0000000 ≡ 32)
+    × (barred 0 ≡ true)
+    × (barred 0xdfffffff ≡ false)
+    × (barred 0xe0000000 ≡ true)
+
+abbrev pub OfMoves : Type 0
+OfMoves =
+    (pairRoute 0x0a000000 0xc0000201 ≡ via 8 0x0a000000)
+    × (routeOut (via 8 0x0a000000) .bytes ≡ ten)
+    × (firstRefusal (pairOut (replicate 8 0) .checks) ≡ 18)
+    × (allBytes (outRows (tenPair ++ tenPair)) ≡ ten ++ ten)
+    × (outward twoPairs ≡ given (16 ∷ 172 ∷ 16 ∷ 192 ∷ 0 ∷ 2 ∷ 1 ∷ 32 ∷ 10 ∷ 1 ∷ 0 ∷ 0 ∷ 192 ∷ 0 ∷ 2 ∷ 1 ∷ []))
+    × (firstRefusal (oldFormChecks (via 32 0x0a000000)) ≡ 19)
+    × (firstRefusal (oldFormChecks (via 24 0xe0000000)) ≡ 18)
+    × (rowBack (record { checks = []; route = via 8 0x0a000000 }) .bytes ≡ tenPair)
+    × (allBytes (backRows (ten ++ ten)) ≡ tenPair ++ tenPair)
+    × (backward ten ≡ given tenPair)
+    × (backward tenHost ≡ refused 19)
+    × (backward (2 ∷ 255 ∷ 192 ∷ 0 ∷ 2 ∷ 1 ∷ []) ≡ refused 19)
+    × (backward (4 ∷ 15 ∷ 192 ∷ 0 ∷ 2 ∷ 1 ∷ []) ≡ refused 18)
+    × (backward (default ++ 33 ∷ []) ≡ refused 18)
+    × (backward (tenHost ++ 33 ∷ []) ≡ refused 19)
+    × (backward (8 ∷ 0 ∷ 1 ∷ 2 ∷ 3 ∷ []) ≡ refused 10)
+    × (backward (33 ∷ 0 ∷ []) ≡ refused 12)
+    × (firstRefusal (lentChecks [] [] 1) ≡ 4)
+    × (firstRefusal (pairsChecks (replicate 9 0)) ≡ 10)
+    × (answerTo (moveOut tenPair zeros 1) zeros 1 ≡ given 9)
+    × (roomAfter (moveOut tenPair zeros 1) zeros 1 ≡ 0 ∷ 121 ∷ 6 ∷ ten ++ 0 ∷ 0 ∷ 0 ∷ [])
+    × (answerTo (moveOut (replicate 9 0) zeros 0) zeros 0 ≡ refused 10)
+    × (answerTo (moveOut (tenPair ++ 224 ∷ 0 ∷ 0 ∷ 1 ∷ 192 ∷ 0 ∷ 2 ∷ 1 ∷ []) (0 ∷ 0 ∷ 0 ∷ []) 0) (0 ∷ 0 ∷ 0 ∷ []) 0 ≡ refused 18)
+    × (answerTo (moveOut tenPair (replicate 7 0) 0) (replicate 7 0) 0 ≡ refused 8)
+    × (answerTo (moveOut [] zeros 12) zeros 12 ≡ given 12)
+    × (answerTo (moveOut [] zeros 13) zeros 13 ≡ refused 4)
+    × (answerTo (moveBack ten zeros 0) zeros 0 ≡ given 10)
+    × (roomAfter (moveBack ten zeros 0) zeros 0 ≡ 33 ∷ 8 ∷ tenPair ++ 0 ∷ 0 ∷ [])

@@ -1,9 +1,11 @@
 -- Lists of bytes (`Bytes` of `specs/Lists.antt`): what is taken out of one, or made of two, is one too.
 -- Assumes nothing.
-use Prim.Native.Nat.{ℕ, suc, zero, _<_}
+use Prim.Native.Nat.{ℕ, suc, zero, _/_, _^_, _<_}
+use native.Mathlib.Nat.{mod-lt}
 use mathlib.Core.List.{List, [], _∷_, _++_}
 use lib.ListN.{take, drop, getD}
 use lib.Dec.{lit<}
+use Rattle.facts.specs.BigEndian.{digits}
 use Rattle.rfc.specs.Header.{Part, bytesOf}
 use Rattle.rfc.specs.Lists.{Bytes}
 
@@ -34,6 +36,10 @@ bytes-joined (x ∷ a) b h g = (h .0, bytes-joined a b (h .1) g)
 pub bytes-front : (a b : List ℕ) → Bytes (a ++ b) → Bytes a
 bytes-front [] b h = tt
 bytes-front (x ∷ a) b h = (h .0, bytes-front a b (h .1))
+
+pub bytes-digits : (width n : ℕ) → Bytes (digits width n)
+bytes-digits zero n = tt
+bytes-digits (suc width) n = (mod-lt (n / 256 ^ width) (lit< tt), bytes-digits width n)
 
 pub bytes-part : (p : Part) (message : List ℕ) → Bytes message → Bytes (bytesOf p message)
 bytes-part p message h = bytes-take (p .len) (drop (p .start) message) (bytes-drop (p .start) message h)

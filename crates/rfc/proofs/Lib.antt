@@ -17,6 +17,10 @@ pub mod Typed
 pub mod Contents
 pub mod Written
 pub mod Routes
+pub mod Strung
+pub mod Classless
+pub mod Moves
+pub mod Moved
 pub mod Parts
 pub mod Readback
 pub mod Lists

@@ -72,6 +72,18 @@ unfolding firstRefusal
 none-first done = refl
 none-first (next e c) = rw e (none-first c)
 
+-- of checks before others
+pub first-front : (cs ds : List Check) → 0 < firstRefusal cs → firstRefusal (cs ++ ds) ≡ firstRefusal cs
+unfolding firstRefusal
+first-front [] ds h = absurd (omega arith)
+first-front (check true k ∷ cs) ds h = refl
+first-front (check false k ∷ cs) ds h = first-front cs ds h
+
+pub first-behind : (cs ds : List Check) → Clear cs → firstRefusal (cs ++ ds) ≡ firstRefusal ds
+unfolding firstRefusal
+first-behind [] ds c = refl
+first-behind (check t k ∷ cs) ds (next e c) = rw e (first-behind cs ds c)
+
 -- and back: a number above 0 is that of the check that refuses; 0 is none, where each check's number is above 0
 pub is-first : (cs : List Check) {n : ℕ} → n ≡ firstRefusal cs → 0 < n → Refuses cs n
 unfolding firstRefusal
@@ -79,12 +91,17 @@ is-first [] e h = absurd (omega arith)
 is-first (check true k ∷ cs) e h = rw e (here refl)
 is-first (check false k ∷ cs) e h = later refl (is-first cs e h)
 
-abbrev Numbered : List Check → Type 0
+abbrev pub Numbered : List Check → Type 0
 Numbered [] = Unit {0}
 Numbered (check test zero ∷ cs) = ⊥
 Numbered (check test (suc n) ∷ cs) = Numbered cs
 
-is-none : (cs : List Check) {n : ℕ} → Numbered cs → n ≡ firstRefusal cs → n ≤ 0 → Clear cs
+pub numbered-both : (cs ds : List Check) → Numbered cs → Numbered ds → Numbered (cs ++ ds)
+numbered-both [] ds c d = d
+numbered-both (check test zero ∷ cs) ds c d = absurd c
+numbered-both (check test (suc n) ∷ cs) ds c d = numbered-both cs ds c d
+
+pub is-none : (cs : List Check) {n : ℕ} → Numbered cs → n ≡ firstRefusal cs → n ≤ 0 → Clear cs
 unfolding firstRefusal
 is-none [] p e h = done
 is-none (check test zero ∷ cs) p e h = absurd p

@@ -8,10 +8,13 @@ use lib.ListN.{length, take, drop, length-append, take-append-drop}
 use lib.Seq.{take-append-seam, drop-append-seam}
 use Rattle.facts.specs.Pieces.{pieces}
 use Rattle.facts.proofs.Pieces.{pieces-more, flatten-pieces}
-use Rattle.rfc.specs.Numbers.{padCode, endCode}
-use Rattle.rfc.specs.Walk.{run, extend, further, walk, option}
+use Rattle.facts.specs.Over.{over}
+use Rattle.facts.proofs.Over.{length-over, from-over}
+use Rattle.rfc.specs.Numbers.{given, mostBytes, padCode, endCode}
+use Rattle.rfc.specs.Walk.{run, extend, further, walk, option, step}
+use Rattle.rfc.specs.Typed.{Apart}
 use Rattle.rfc.specs.Writing.{partsOf, encode}
-use Rattle.rfc.proofs.Walk.{further-more, walk-code, behind-whole, joined-run}
+use Rattle.rfc.proofs.Walk.{further-none, further-other, further-more, walk-code, behind-whole, joined-run, step-walks, answered}
 use Rattle.rfc.proofs.Writing.{length-parts}
 
 -- parts of `code`, and behind them something that is no further part of it
@@ -60,3 +63,27 @@ module _ (code : ℕ) (tail : List ℕ) (other : further code tail ≡ run 0 [])
         ap (λ (ps : List (List ℕ)). walk at (partsOf code ps ++ tail)) e
         ∙ walk-parts at (take size v) rest
         ∙ (λ i. option code (whole i) (length rest + 1) (at + length (partsOf code (sym e i))))
+
+-- behind the last part there is nothing, or something of another code
+pub apart-none : (code : ℕ) (tail : List ℕ) → Apart code tail → further code tail ≡ run 0 []
+apart-none code [] u = further-none code
+apart-none code (b ∷ rest) n = further-other code b rest n
+
+-- a value that stands in a room is found there, in parts of any size
+pub value-found : (size code : ℕ) (v room : List ℕ) (place join : ℕ) → 0 < size → (code ≡ padCode → ⊥) → (code ≡ endCode → ⊥)
+    → length room ≤ mostBytes → place + length (encode size code v) ≤ length room → 1 ≤ length v → length v ≤ join
+    → Apart code (drop (place + length (encode size code v)) room)
+    → step (over room place (encode size code v)) place join
+    ≡ given (option code v (length (pieces size (drop size v)) + 1) (place + length (encode size code v)))
+value-found size code v room place join some no-pad no-end short fits there joins apart =
+    let here : List ℕ = encode size code v in
+    let tail : List ℕ = drop (place + length here) room in
+    let n : ℕ = length (pieces size (drop size v)) + 1 in
+    let area : List ℕ = over room place here in
+    let long : length area ≡ length room = length-over room place here fits in
+    rw (
+      step-walks area place join (omega arith) (omega arith),
+      from-over room place here fits,
+      walk-value code tail (apart-none code tail apart) no-pad no-end size some place v there,
+    )
+    (answered join code v n (place + length here) joins)

@@ -25,14 +25,14 @@ use Rattle.rfc.specs.Writing.{partsOf, encode, answerTo, roomAfter, into
 use Rattle.rfc.specs.Typed.{digitsOf, bytesIn, bytesOf, partSize, encodeKind, oddPairs, writeValue, Apart, Below, Seconds, Proper, bytes, address, addresses, pairs, byte, yesNo, u16, u16s, u32, i32, text, codes, nodeType, messageType, threeBytes, flag}
 use Rattle.rfc.proofs.Numbers.{no-pad, no-end}
 use Rattle.rfc.proofs.Writing.{some-value, given-left, given-fits}
-use Rattle.rfc.proofs.Parts.{walk-parts, walk-value}
+use Rattle.rfc.proofs.Parts.{walk-parts, walk-value, apart-none}
 use Rattle.rfc.proofs.Values as of
 use Rattle.rfc.proofs.Elements.{listed-size}
 use Rattle.rfc.proofs.Readings.{length-by, some-alike, flag-empty, strict-judged, read-given, strict-plain, value-given}
 use Rattle.rfc.proofs.Typed.{some-part, encode-kind, encode-flag}
 use Rattle.rfc.proofs.Contents.{digits-whole, numbers-back, seconds-below, seconds-signed}
 use Rattle.rfc.proofs.Written.{put, Written, below-16}
-use Rattle.rfc.proofs.Walk.{further-none, further-other, answered, step-walks}
+use Rattle.rfc.proofs.Walk.{further-other, answered, step-walks}
 
 -- some bytes are those of a value: strict reading takes them, and reads it
 record Reads (kind : ℕ) (v : List ℕ) (content : Content) : Type 0 where
@@ -141,10 +141,6 @@ module _ (kind code : ℕ) (v tail : List ℕ) (below-16 : kind < 16) (right : w
           let value : 0 < length v = some-value (partSize kind) size code v (omega (arith, ap length e)) in
           let n : ℕ = length (pieces (partSize kind) (drop (partSize kind) v)) + 1 in
           (n, rw e (walk-value code tail other (no-pad code some) (no-end code some) (partSize kind) size at v value))
-
-apart-none : (code : ℕ) (tail : List ℕ) → Apart code tail → further code tail ≡ run 0 []
-apart-none code [] u = further-none code
-apart-none code (b ∷ rest) n = further-other code b rest n
 
 -- a typed write that is given
 module _ {code : ℕ} {x : Value} {room : List ℕ} {place to : ℕ} (w : Written code x room place to)

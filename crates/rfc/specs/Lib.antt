@@ -7,6 +7,9 @@ pub mod Values
 pub mod Writing
 pub mod Typed
 pub mod Routes
+pub mod Strung
+pub mod Classless
+pub mod Moves
 pub mod Lists
 pub mod Portions
 pub mod Aggregate

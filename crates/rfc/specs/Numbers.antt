@@ -75,7 +75,8 @@ tooMuch value = ltb mostValue (length value)
 unfoldable pub noRoom : List ℕ → ℕ → List ℕ → Bool
 noRoom room place bytes = ltb (length room) (place + length bytes)
 
--- (3 stands in Header, 5 in Walk, 10, 11 and 14 in Values, 9 and 13 in Typed, 12 in Routes, 15 and 16 in Aggregate, 17 in Stream.)
+-- (3 stands in Header, 5 in Walk, 10, 11 and 14 in Values, 9 and 13 in Typed, 12 in Routes, 10 and 12 of a row in Classless, 15 and 16 in
+-- Aggregate, 17 in Stream, 18 and 19 in Moves.)
 
 -- a check: the number is given where the test holds
 pub data Check : Type 0 where
@@ -91,7 +92,7 @@ unfoldable pub firstRefusal : List Check → ℕ
 firstRefusal [] = 0
 firstRefusal (check test number ∷ checks) = cond test number (firstRefusal checks)
 
--- the order of the checks; 4 for a place comes third, 4 for an index eleventh; 15 for the options field comes before 16, and 15 for a field
--- that option 52 names behind it
+-- the order of the checks; 4 for a place comes fourth, 4 for an index fourteenth; 15 for the options field comes before 16, and 15 for a
+-- field that option 52 names behind it
 abbrev pub order : List ℕ
-order = 2 ∷ 17 ∷ 1 ∷ 4 ∷ 6 ∷ 9 ∷ 13 ∷ 12 ∷ 10 ∷ 11 ∷ 14 ∷ 4 ∷ 3 ∷ 7 ∷ 15 ∷ 16 ∷ 15 ∷ 5 ∷ 8 ∷ []
+order = 2 ∷ 17 ∷ 1 ∷ 4 ∷ 6 ∷ 9 ∷ 13 ∷ 12 ∷ 10 ∷ 18 ∷ 19 ∷ 11 ∷ 14 ∷ 4 ∷ 3 ∷ 7 ∷ 15 ∷ 16 ∷ 15 ∷ 5 ∷ 8 ∷ []

@@ -1,22 +1,31 @@
--- A pass over all rows of a table: after a refusal it does nothing, the first pass measures the value of the table, and the second puts it.
+-- The rows of a table: what is made of them, and what the write of it answers by them.
 -- Assumes nothing.
-use mathlib.Core.Path.{_≡_, refl, sym, ap, _∙_}
-use Prim.Native.Nat.{ℕ, suc, _+_, _≤_, _<_, min}
+use mathlib.Core.Path.{_≡_, refl, sym, ap, _∙_, subst}
+use Prim.Native.Nat.{ℕ, _+_, _≤_, _<_}
 use mathlib.Core.Bool.{true, false}
-use mathlib.Core.List.{List, [], _∷_, _++_, foldl, foldl-append}
-use native.Mathlib.Omega.{arith}
-use native.Mathlib.Decide.{decLe}
-use lib.Dec.{lit<}
-use lib.ListN.{length, length-append}
-use Rattle.rfc.specs.Numbers.{mostValue}
+use mathlib.Core.List.{List, [], _∷_, _++_, map, foldl}
+use lib.Dec.{ltb, lit<}
+use lib.ListN.{length}
+use borrow.Author.Tests.{ltb-true, ltb-false, lt-ltb, le-ltb}
+use Rattle.facts.specs.Each.{Each}
+use Rattle.rfc.specs.Numbers.{given, refused, mostBytes, mostPart, Check, check, firstRefusal}
+use Rattle.rfc.specs.Writing.{Write, encode}
+use Rattle.facts.specs.Over.{over}
 use Rattle.rfc.specs.Routes as rfc
+use Rattle.rfc.specs.Strung.{RowMade, allChecks, allBytes}
+use Rattle.rfc.proofs.Numbers.{Refuses, here, later, refuses, Clear, done, next, clears, given-no, first-is, none-first}
 use Rattle.rfc.proofs.Routes.{routes-none, routes-more, wide-none, wide-first, wide-later}
-use Rattle.routes.specs.Rows.{rowOf, rowsOf}
-use Rattle.routes.specs.Passes.{State, refuse, measured, put, passed}
-use Rattle.routes.specs.declared.Pass.{Pass}
+use Rattle.rfc.proofs.Routes.{routes-2, routes-4, routes-12, routes-7, routes-8, routes-given, routes-left}
+use Rattle.rfc.proofs.Strung.{checks-none, checks-more, bytes-none, bytes-more, Decides}
+use Rattle.encoder.specs.Written.{says, Wrote}
+use Rattle.encoder.specs.declared.Written.{Written}
+use Rattle.laying.specs.Passes.{State, begun, measured, gauged, turned, passed, answered}
+use Rattle.laying.specs.declared.Pass.{Pass}
+use Rattle.laying.proofs.Passes.{measured-same}
+use Rattle.laying.proofs.Rows.{Counts}
+use Rattle.laying.proofs.Together.{both-passes as both, from-begun}
+use Rattle.routes.specs.Rows.{rowOf, rowsOf, madeOf, tabled}
 use Rattle.routes.specs.declared.Route.{Route}
-use Rattle.routes.proofs.Passes.{measured-12, measured-full, measured-longer, passed-refused, passed-writing, passed-measuring}
-use Rattle.routes.proofs.Puts.{puts-keep}
 
 rows-none : rowsOf [] ≡ []
 unfolding rowsOf
@@ -26,84 +35,98 @@ rows-more : (r : Route) (rs : List Route) → rowsOf (r ∷ rs) ≡ rowOf r ∷ 
 unfolding rowsOf
 rows-more r rs = refl
 
-value-none : rfc.routesBytes (rowsOf []) ≡ []
-value-none = ap rfc.routesBytes rows-none ∙ routes-none
+-- their bytes are the table's value
+value-is : (rs : List Route) → allBytes (map madeOf rs) ≡ rfc.routesBytes (rowsOf rs)
+unfolding madeOf
+value-is [] = bytes-none ∙ sym (ap rfc.routesBytes rows-none ∙ routes-none)
+value-is (r ∷ rs) =
+    bytes-more (madeOf r) (map madeOf rs)
+    ∙ ap (λ (l : List ℕ). rfc.routeBytes (rowOf r) ++ l) (value-is rs)
+    ∙ sym (ap rfc.routesBytes (rows-more r rs) ∙ routes-more (rowOf r) (rowsOf rs))
 
-value-more : (r : Route) (rs : List Route)
-    → rfc.routesBytes (rowsOf (r ∷ rs)) ≡ rfc.routeBytes (rowOf r) ++ rfc.routesBytes (rowsOf rs)
-value-more r rs = ap rfc.routesBytes (rows-more r rs) ∙ routes-more (rowOf r) (rowsOf rs)
+-- one row more
+more-checks : (x : Route) (ms : List RowMade) → allChecks (madeOf x ∷ ms) ≡ check (ltb rfc.mostWidth (x .width)) 12 ∷ allChecks ms
+unfolding madeOf
+more-checks x ms = checks-more (madeOf x) ms
 
--- after a refusal
-pub all-refused : (rs : List Route) (d : State) → 0 < d .0 .refusal → foldl passed d rs ≡ d
-all-refused [] d h = refl
-all-refused (r ∷ rs) d h = ap (λ (e : State). foldl passed e rs) (passed-refused d r h) ∙ all-refused rs d h
+-- a row is refused where one is too wide, and by nothing else
+none-refuses : (k : ℕ) → Refuses [] k → ⊥
+none-refuses k r = given-no k k (sym (clears (given k) done) ∙ refuses (given k) r)
 
--- the second pass
-pub all-put : (rs : List Route) (d : State) → d .0 .refusal ≤ 0 → d .0 .writing ≡ true
-    → foldl passed d rs ≡ foldl put d (rfc.routesBytes (rowsOf rs))
-all-put [] d h w = ap (foldl put d) (sym value-none)
-all-put (r ∷ rs) d h w =
-    let row : List ℕ = rfc.routeBytes (rowOf r) in
-    let k = puts-keep row d in
-    ap (λ (e : State). foldl passed e rs) (passed-writing d r h w)
-    ∙ all-put rs (foldl put d row) (omega (arith, k .0)) (k .1 ∙ w)
-    ∙ sym (foldl-append put d row (rfc.routesBytes (rowsOf rs)))
-    ∙ ap (foldl put d) (sym (value-more r rs))
+abbrev Wide : List Route → ℕ → Type 0
+Wide rs k = (k ≡ 12) × (rfc.tooWide (rowsOf rs) ≡ true)
 
--- the first pass: a pass that has measured so many bytes
-abbrev pub withLen : ℕ → Pass → Pass
-withLen n p = record { writing = p .writing; refusal = p .refusal; at = p .at; part = p .part; len = n }
+wide-more : (x : Route) (rs : List Route) → ((k : ℕ) → Refuses (allChecks (map madeOf rs)) k → Wide rs k)
+    → (k : ℕ) → Refuses (check (ltb rfc.mostWidth (x .width)) 12 ∷ allChecks (map madeOf rs)) k → Wide (x ∷ rs) k
+wide-more x rs told k (here e) =
+    (refl, ap rfc.tooWide (rows-more x rs) ∙ wide-first (rowOf x) (rowsOf rs) (ltb-true rfc.mostWidth (x .width) e))
+wide-more x rs told k (later e r) =
+    let t = told k r in
+    (t .0, ap rfc.tooWide (rows-more x rs) ∙ wide-later (rowOf x) (rowsOf rs) (ltb-false rfc.mostWidth (x .width) e) ∙ t .1)
 
--- from one state to another the rows are measured: a route is too wide; or none is, and n bytes are counted, which is as many as the value
--- has, or both are too many
-pub data Measures (rs : List Route) (d e : State) : Type 0 where
-  wide : rfc.tooWide (rowsOf rs) ≡ true → e .0 .refusal ≡ 12 → e .1 ≡ d .1 → Measures rs d e
-  narrow : rfc.tooWide (rowsOf rs) ≡ false → (n : ℕ) → e ≡ (withLen n (d .0), d .1)
-      → min (suc mostValue) n ≡ min (suc mostValue) (d .0 .len + length (rfc.routesBytes (rowsOf rs))) → Measures rs d e
+wide-is : (rs : List Route) (k : ℕ) → Refuses (allChecks (map madeOf rs)) k → Wide rs k
+wide-is [] k r = absurd (none-refuses k (subst (λ (l : List Check). Refuses l k) checks-none r))
+wide-is (x ∷ rs) k r =
+    wide-more x rs (λ j q. wide-is rs j q) k (subst (λ (l : List Check). Refuses l k) (more-checks x (map madeOf rs)) r)
 
-abbrev Told : List Route → Type 0
-Told rs = (d : State) → d .0 .refusal ≤ 0 → d .0 .writing ≡ false → Measures rs d (foldl passed d rs)
+narrow-more : (x : Route) (rs : List Route) → (Clear (allChecks (map madeOf rs)) → rfc.tooWide (rowsOf rs) ≡ false)
+    → Clear (check (ltb rfc.mostWidth (x .width)) 12 ∷ allChecks (map madeOf rs)) → rfc.tooWide (rowsOf (x ∷ rs)) ≡ false
+narrow-more x rs told (next e c) =
+    ap rfc.tooWide (rows-more x rs) ∙ wide-later (rowOf x) (rowsOf rs) (ltb-false rfc.mostWidth (x .width) e) ∙ told c
 
--- one row more, in front
-module _ (r : Route) (rs : List Route) (told : Told rs) (p : Pass) (room : List ℕ) (h : p .refusal ≤ 0) (w : p .writing ≡ false) where
-  abbrev row : List ℕ
-  row = rfc.routeBytes (rowOf r)
+narrow-is : (rs : List Route) → Clear (allChecks (map madeOf rs)) → rfc.tooWide (rowsOf rs) ≡ false
+narrow-is [] c = ap rfc.tooWide rows-none ∙ wide-none
+narrow-is (x ∷ rs) c = narrow-more x rs (λ d. narrow-is rs d) (subst Clear (more-checks x (map madeOf rs)) c)
 
-  abbrev behind : List ℕ
-  behind = rfc.routesBytes (rowsOf rs)
+-- one row is measured
+module _ (p : Pass) (x : Route) where
+  pub wide-gauged : (n : ℕ) → rfc.mostWidth < x .width → measured p 12 n ≡ gauged p (madeOf x)
+  unfolding madeOf
+  wide-gauged n h =
+      let e : 12 ≡ firstRefusal (madeOf x .checks) = sym (first-is (here (lt-ltb rfc.mostWidth (x .width) h))) in
+      measured-same p 12 n (length (madeOf x .bytes)) (lit< tt) ∙ ap (λ (k : ℕ). measured p k (length (madeOf x .bytes))) e
 
-  abbrev all : List ℕ
-  all = rfc.routesBytes (rowsOf (r ∷ rs))
+  pub narrow-gauged : (n : ℕ) → x .width ≤ rfc.mostWidth → n ≡ length (rfc.routeBytes (rowOf x)) → measured p 0 n ≡ gauged p (madeOf x)
+  unfolding madeOf
+  narrow-gauged n h l =
+      let e : 0 ≡ firstRefusal (madeOf x .checks) = sym (none-first (next (le-ltb rfc.mostWidth (x .width) h) done)) in
+      λ i. measured p (e i) (l i)
 
-  sum : length all ≡ length row + length behind
-  sum = ap length (value-more r rs) ∙ length-append row behind
+-- so the write of a table is decided by its rows
+module _ (rs : List Route) (room : List ℕ) (place : ℕ) where
+  abbrev w : Write
+  w = rfc.writeRoutes (rowsOf rs) room place
 
-  -- the row is narrow, and n bytes are counted with it
-  module _ (g : r .width ≤ rfc.mostWidth) (n : ℕ) where
-    in-front : (e : State) → min (suc mostValue) (n + length behind) ≡ min (suc mostValue) (p .len + length all)
-        → Measures rs (withLen n p, room) e → Measures (r ∷ rs) (p, room) e
-    in-front e c (wide t k l) = wide (ap rfc.tooWide (rows-more r rs) ∙ wide-later (rowOf r) (rowsOf rs) g ∙ t) k l
-    in-front e c (narrow t m is c′) = narrow (ap rfc.tooWide (rows-more r rs) ∙ wide-later (rowOf r) (rowsOf rs) g ∙ t) m is (c′ ∙ c)
+  decides : length room ≤ mostBytes → place ≤ length room → Decides w mostPart rfc.routesCode (map madeOf rs) room place
+  decides short within =
+      record {
+        by-row = λ k r. routes-12 (rowsOf rs) room place short within (wide-is rs k r .1) ∙ ap refused (sym (wide-is rs k r .0));
+        by-7 = λ c h. routes-7 (rowsOf rs) room place short within (narrow-is rs c) (rw (value-is rs) at h);
+        by-8 = λ c h g. routes-8 (rowsOf rs) room place short within (narrow-is rs c) (rw (value-is rs) at h) (rw (value-is rs) at g);
+        to = λ c h g. routes-given (rowsOf rs) room place short within (narrow-is rs c) (rw (value-is rs) at h) (rw (value-is rs) at g)
+            ∙ ap (λ (v : List ℕ). given (place + length (encode mostPart rfc.routesCode v))) (sym (value-is rs));
+        left = λ c h g. routes-left (rowsOf rs) room place short within (narrow-is rs c) (rw (value-is rs) at h) (rw (value-is rs) at g)
+            ∙ ap (λ (v : List ℕ). over room place (encode mostPart rfc.routesCode v)) (sym (value-is rs));
+      }
 
-    counts : measured p (rowOf r) ≡ withLen n p → min (suc mostValue) (n + length behind) ≡ min (suc mostValue) (p .len + length all)
-        → Measures (r ∷ rs) (p, room) (foldl passed (measured p (rowOf r), room) rs)
-    counts e c = rw e (in-front _ c (told (withLen n p, room) h w))
+  counts : (rs : List Route) → Each Counts (map madeOf rs)
+  unfolding madeOf
+  counts [] = tt
+  counts (r ∷ rs) = (tt, counts rs)
 
-  refuses : rfc.mostWidth < r .width → Measures (r ∷ rs) (p, room) (foldl passed (measured p (rowOf r), room) rs)
-  refuses g =
-      rw (measured-12 p (rowOf r) g, all-refused rs (refuse 12 p, room) (lit< tt))
-      (wide (ap rfc.tooWide (rows-more r rs) ∙ wide-first (rowOf r) (rowsOf rs) g) refl refl)
+  -- a pass over the table is one over its rows
+  over-rows : (rs : List Route) (d : State) → foldl tabled d rs ≡ foldl passed d (map madeOf rs)
+  over-rows [] d = refl
+  over-rows (r ∷ rs) d = over-rows rs (passed d (madeOf r))
 
-  by-row : Measures (r ∷ rs) (p, room) (foldl passed (measured p (rowOf r), room) rs)
-  by-row = go (decLe (r .width) rfc.mostWidth) (decLe (p .len) mostValue)
-    where
-      go : Dec (r .width ≤ rfc.mostWidth) → Dec (p .len ≤ mostValue)
-          → Measures (r ∷ rs) (p, room) (foldl passed (measured p (rowOf r), room) rs)
-      go (yes g) (yes f) = counts g (p .len + length row) (measured-longer p (rowOf r) g f) (omega (arith, sum))
-      go (yes g) (no f) = counts g (p .len) (measured-full p (rowOf r) g (omega arith)) (omega (arith, sum))
-      go (no g) f = refuses (omega arith)
-
-pub all-measured : (rs : List Route) → Told rs
-all-measured [] d h w =
-    narrow (ap rfc.tooWide rows-none ∙ wide-none) (d .0 .len) refl (omega (arith, ap length value-none))
-all-measured (r ∷ rs) d h w = rw (passed-measuring d r h w) (by-row r rs (all-measured rs) (d .0) (d .1) h w)
+  -- what the functions that are called promise, put together
+  pub both-passes : (p₁ p₂ p₃ p₄ : Pass) (room₁ room₂ : List ℕ) (r : Written)
+      → p₁ ≡ begun (length room) place rfc.routesCode mostPart → (p₂, room₁) ≡ foldl tabled (p₁, room) rs
+      → p₃ ≡ turned p₂ (length room) → (p₄, room₂) ≡ foldl tabled (p₃, room₁) rs
+      → says r ≡ answered p₄ → Wrote w room room₂ place r
+  both-passes p₁ p₂ p₃ p₄ room₁ room₂ r e₁ e₂ e₃ e₄ e₅ =
+      both w mostPart rfc.routesCode (map madeOf rs) room place p₁ p₂ p₃ p₄ room₁ room₂ r
+      (rw e₁
+      (from-begun w mostPart rfc.routesCode (map madeOf rs) room place (lit< tt) (counts rs)
+      (routes-2 (rowsOf rs) room place) (routes-4 (rowsOf rs) room place) decides))
+      (e₂ ∙ over-rows rs (p₁, room)) e₃ (e₄ ∙ over-rows rs (p₃, room₁)) e₅

@@ -20,9 +20,9 @@ use denote.Enum.Laws as enum
 use Rattle.facts.proofs.Values.{Owns, copies}
 use Rattle.encoder.proofs.Written as W′
 use Rattle.encoder.proofs.Written.Laws as W″
-use Rattle.routes.specs.declared.Pass.{Pass}
-use Rattle.routes.proofs.Pass as P
-use Rattle.routes.proofs.Pass.Laws as P′
+use Rattle.laying.specs.declared.Pass.{Pass}
+use Rattle.laying.proofs.Pass as P
+use Rattle.laying.proofs.Pass.Laws as P′
 use Rattle.routes.proofs.Route.{the-row as R}
 
 abbrev pub word : Ty

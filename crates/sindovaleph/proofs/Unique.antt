@@ -4,8 +4,8 @@ use mathlib.Core.Path.{sym, _∙_}
 use denote.Ref.{now}
 use Rattle.facts.proofs.Unique.{Unique, UniqueLeft}
 use Rattle.crossing.proofs.Carries.{wrote-one}
-use Rattle.sindovaleph.proofs.sindovaleph_boundary_4.Kinds as boundary-kinds
-use Rattle.sindovaleph.proofs.sindovaleph_boundary_4.Reads as boundary
+use Rattle.sindovaleph.proofs.sindovaleph_boundary_5.Kinds as boundary-kinds
+use Rattle.sindovaleph.proofs.sindovaleph_boundary_5.Reads as boundary
 use Rattle.sindovaleph.proofs.sindovaleph_header.Kinds as header-kinds
 use Rattle.sindovaleph.proofs.sindovaleph_header.Reads as header
 use Rattle.sindovaleph.proofs.sindovaleph_xid.Kinds as xid-kinds

@@ -4,4 +4,4 @@ use Prim.Native.Nat.{ℕ}
 
 -- counted up whenever a struct or a function that crosses is added, changed or taken away
 abbrev pub version : ℕ
-version = 4
+version = 5

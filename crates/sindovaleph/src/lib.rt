@@ -20,10 +20,10 @@ use header::Header;
 // The version of the boundary. Its name carries the number, and all who declare the boundary name it: a library of another version does
 // not link.
 #[no_mangle]
-pub extern "C" fn sindovaleph_boundary_4() -> u32
+pub extern "C" fn sindovaleph_boundary_5() -> u32
     ensures { λ r. ⌜ r ≡ version ⌝ }
 {
-    4
+    5
 }
 
 // All fields of the header.

@@ -57,6 +57,8 @@ pub fn layouts() -> Vec<Layout> {
         WriteRow { code start len }
         WrittenRows { refused rows place }
         Route { width destination gateway }
+        ReadRoute { refused found width destination gateway place }
+        RouteCount { refused count }
         Stream { state high size filled }
         Received { refused len used stream }
     }

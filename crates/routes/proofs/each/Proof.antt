@@ -36,14 +36,15 @@ use Rattle.facts.proofs.Walking.{a-value, by-hand, var, two, three, sets, calls
 use Rattle.facts.proofs.Walking.{ !, last-values}
 use Rattle.facts.proofs.Folds.{fold-next, fold-end}
 use Rattle.facts.proofs.Lending.{roomAt, Lent, lends-room, room-comes-back}
-use Rattle.routes.specs.Passes.{State, passed}
-use Rattle.routes.specs.declared.Pass.{Pass}
+use Rattle.laying.specs.Passes.{State, passed}
+use Rattle.routes.specs.Rows.{madeOf, tabled}
+use Rattle.laying.specs.declared.Pass.{Pass}
 use Rattle.routes.specs.declared.Route.{Route}
 use Rattle.routes.proofs.Values.{word, ref, roomTy, tableTy, Holds, pass-law, copies-pass}
 use Rattle.routes.proofs.Route as T
 use Rattle.routes.proofs.Route.Laws as T′
-use Rattle.routes.proofs.Pass as P
-use Rattle.routes.proofs.Pass.Laws as P′
+use Rattle.laying.proofs.Pass as P
+use Rattle.laying.proofs.Pass.Laws as P′
 use Rattle.routes.proofs.one as one
 use Rattle.routes.proofs.one.Met as one-thm
 use Rattle.routes.proofs.each.Key.{name as #routes·each}
@@ -85,7 +86,7 @@ record Head (rows : List Route) (d : State) : Type 0 where
   bytes : List ℕ
   typed : T (hasTy P′.mir v) × WT v
   same : length bytes ≡ length (d .1)
-  so-far : foldl passed (p, bytes) (drop i rows) ≡ foldl passed d rows
+  so-far : foldl tabled (p, bytes) (drop i rows) ≡ foldl tabled d rows
 
 abbrev less : (rows : List Route) (d : State) → Head rows d → Head rows d → Type 0
 less rows d t u = length rows - t .i < length rows - u .i
@@ -98,7 +99,7 @@ module _ {M : Type 1} (𝓤 : URA M) (H : Heap 𝓤) (𝓜 : Model 𝓤 H) (𝓖
     (κr κt : Lft) (qr qt : Share) (xr : RefT (List ℕ)) (p₀ : Pass) (xt : RefT (List Route))
     (room-r : Room u8 (length (xr .now))) (room-t : Room R (length (xt .now))) (Q : Val → SProp 𝓤)
     (end : (v : Val) (p : Pass) (l : List ℕ) → length l ≡ length (xr .now)
-    → _≡_ {A = State} (p, l) (foldl passed (p₀, xr .now) (xt .now))
+    → _≡_ {A = State} (p, l) (foldl tabled (p₀, xr .now) (xt .now))
     → Sq W (‵ (Lent xr κr (xr .name) l) ∷ ‵ (flft κr qr) ∷ ‵ (Holds p v) ∷ ‵ (flft κt qt) ∷ ‵ (Slice R (named 1) κt xt)
     ∷ ‵ (Holds p₀ (P′.lowered p₀)) ∷ []) (prop (Q v)))
     (l₀ l₁ l₂ l₃ l₄ l₅ l₆ l₇ l₈ l₉ l₁₀ l₁₁ : ℕ) where
@@ -189,7 +190,7 @@ module _ {M : Type 1} (𝓤 : URA M) (H : Heap 𝓤) (𝓜 : Model 𝓤 H) (𝓖
       calls ! 𝓣 one.ended (one.clauses 𝓤 H (𝓖 .A) (𝓜 .mem) (𝓡 .run)) (known 𝓜 𝓡 code.env code.calls-routes·one (one-thm.met 𝓤 H 𝓜 𝓖 𝓡))
       (((ν ∷ [], tt), (fullShare, tt), tt, (roomAt xr γ (t .bytes), (t .p, (r, tt))), (sliceOf xr ∷ [], (t .v ∷ [], (valsOf r, tt)))), tt)
       (id⊢ 𝓤 _) (three ! (var ! 9 refl) (var ! 4 refl) (var ! 11 refl)) (pass-law 𝓤 H (𝓖 .A) W)
-      (λ p ws. _≡_ {A = State} (p, ws .0) (passed (t .p, t .bytes) r)) (λ p ws. id⊢ 𝓤 _) (λ v p ws typed did. last-values ! (λ long.
+      (λ p ws. _≡_ {A = State} (p, ws .0) (passed (t .p, t .bytes) (madeOf r))) (λ p ws. id⊢ 𝓤 _) (λ v p ws typed did. last-values ! (λ long.
       -- [the room's last bytes 0; what the answer owns 1; the token of ν 2; what is kept 3; the table's 4 5; _4 6; _5 7; …; _11 13; …]
       land ! (from ! (stop !)) (store ! 6 refl (typed .0)) $
       -- the room comes back
@@ -215,7 +216,7 @@ module _ {M : Type 1} (𝓤 : URA M) (H : Heap 𝓤) (𝓜 : Model 𝓤 H) (𝓖
       next-fits = omega (arith, small, room-t .0)
 
       next : (p : Pass) (v : Val) (l : List ℕ) → T (hasTy P′.mir v) × WT v → length l ≡ length (t .bytes)
-          → (p, l) ≡ passed (t .p, t .bytes) r → Head rows d₀
+          → (p, l) ≡ passed (t .p, t .bytes) (madeOf r) → Head rows d₀
       next p v l typed long did =
           record {
             i = t .i + 1;
@@ -224,7 +225,7 @@ module _ {M : Type 1} (𝓤 : URA M) (H : Heap 𝓤) (𝓜 : Model 𝓤 H) (𝓖
             bytes = l;
             typed = typed;
             same = long ∙ t .same;
-            so-far = fold-next passed rows (t .p, t .bytes) (p, l) (t .i) noRoute small did ∙ t .so-far;
+            so-far = fold-next tabled rows (t .p, t .bytes) (p, l) (t .i) noRoute small did ∙ t .so-far;
           }
 
       fewer : n - (t .i + 1) < n - t .i
@@ -244,7 +245,7 @@ module _ {M : Type 1} (𝓤 : URA M) (H : Heap 𝓤) (𝓜 : Model 𝓤 H) (𝓖
       move ! (14 ∷ 19 ∷ 11 ∷ 20 ∷ 12 ∷ 21 ∷ 13 ∷ 22 ∷ 0 ∷ 23 ∷ 2 ∷ 24 ∷ 3 ∷ 25 ∷ 4 ∷ 26 ∷ 5 ∷ 27 ∷ 6 ∷ 28 ∷ 7 ∷ 29 ∷ 8 ∷ 30 ∷ []) $
       freed ! $ freed ! $ freed ! $ freed ! $ freed ! $ freed ! $ freed ! $ freed ! $ free1 ! $ free1 ! $ free1 ! $ free1 ! $ free0 ! $
       keep ! (1 ∷ 2 ∷ 0 ∷ 3 ∷ 5 ∷ 6 ∷ []) $
-      end (t .v) (t .p) (t .bytes) (t .same) (fold-end passed rows (t .p, t .bytes) (t .i) (ltb-false _ _ e) ∙ t .so-far)
+      end (t .v) (t .p) (t .bytes) (t .same) (fold-end tabled rows (t .p, t .bytes) (t .i) (ltb-false _ _ e) ∙ t .so-far)
 
   by-test : (t : Head rows d₀) (c : Bool) → ltb (t .i) n ≡ c → Turn t
   by-test t true e = more t e

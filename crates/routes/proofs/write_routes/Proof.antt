@@ -18,22 +18,25 @@ use Rattle.facts.proofs.Walking.{says, tablesAt, known, Hands, a-room, a-table,
 use Rattle.facts.proofs.Walking.{freed, sliceOf, slice-typed, Slice, keeps-slice, last-values, has-usize}
 use Rattle.facts.proofs.Lending.{roomAt, Lent, Kept, lends-room, room-comes-back}
 use Rattle.encoder.specs.Written.{says as said}
-use Rattle.routes.specs.Passes.{State, begun, turned, passed, answered}
-use Rattle.routes.specs.declared.Pass.{Pass}
+use Rattle.rfc.specs.Numbers.{mostPart}
+use Rattle.rfc.specs.Routes.{routesCode}
+use Rattle.laying.specs.Passes.{State, begun, turned, answered}
+use Rattle.routes.specs.Rows.{tabled}
+use Rattle.laying.specs.declared.Pass.{Pass}
 use Rattle.routes.specs.declared.Route.{Route}
-use Rattle.routes.proofs.Together.{both-passes}
+use Rattle.routes.proofs.Rows.{both-passes}
 use Rattle.routes.proofs.Values.{Holds, pass-law, answer-law}
-use Rattle.routes.proofs.Pass as P
+use Rattle.laying.proofs.Pass as P
 use Rattle.routes.proofs.Route.{the-row as R}
 use Rattle.routes.proofs.begin as begin
 use Rattle.routes.proofs.begin.Met as begin-thm
 use Rattle.routes.proofs.each as each
 use Rattle.routes.proofs.each.Symbol.{name as #routes·each}
 use Rattle.routes.proofs.each.Met as each-thm
-use Rattle.routes.proofs.turn_over as turn
-use Rattle.routes.proofs.turn_over.Met as turn-thm
-use Rattle.routes.proofs.answer as answer
-use Rattle.routes.proofs.answer.Met as answer-thm
+use Rattle.laying.proofs.turn_over as turn
+use Rattle.laying.proofs.turn_over.Met as turn-thm
+use Rattle.laying.proofs.answer as answer
+use Rattle.laying.proofs.answer.Met as answer-thm
 use Rattle.routes.proofs.write_routes.Key.{name as #routes·write-routes}
 use Rattle.routes.proofs.write_routes as here
 use Rattle.routes.proofs.write_routes.Statement as stated
@@ -54,7 +57,7 @@ module _ {M : Type 1} (𝓤 : URA M) (H : Heap 𝓤) (𝓜 : Model 𝓤 H) (𝓖
       → ((ν : ℕ) (γ : GName) (i : Item 𝓤)
       → Opds K W (i ∷ ‵ (Kept xr κr qr (ν ∷ []) γ l) ∷ Γ) E xs (sliceOf xr ∷ v ∷ sliceOf xt ∷ []))
       → ((v′ : Val) (p′ : Pass) (l′ : List ℕ) → Typed (P.the-row .mir) (v′ ∷ []) → length l′ ≡ length (xr .now)
-      → (p′, l′) ≡ foldl passed (p, l) (xt .now)
+      → (p′, l′) ≡ foldl tabled (p, l) (xt .now)
       → Seq K W (‵ (Holds p′ v′) ∷ ‵ (Lent xr κr (xr .name) l′) ∷ ‵ (flft κr qr) ∷ ‵ (flft κt qt) ∷ Γ) (lands (𝓣 .C) (𝓣 .Λ) E d v′ rest q))
       → Seq K W (‵ (Lent xr κr (xr .name) l) ∷ ‵ (flft κr qr) ∷ ‵ (flft κt qt) ∷ ‵ (Holds p v) ∷ ‵ (Slice R (named 1) κt xt) ∷ Γ)
       (runs (𝓣 .C) (𝓣 .Λ) E (seq (call #routes·each xs d) rest) q)
@@ -75,7 +78,7 @@ module _ {M : Type 1} (𝓤 : URA M) (H : Heap 𝓤) (𝓜 : Model 𝓤 H) (𝓖
         tt,
       )
       (id⊢ 𝓤 _) (os ν γ _) (pass-law 𝓤 H A W)
-      (λ p′ ws. _≡_ {A = State} (p′, ws .0) (foldl passed (p, l) (xt .now))) (λ p′ ws. id⊢ 𝓤 _) (λ v′ p′ ws typed did.
+      (λ p′ ws. _≡_ {A = State} (p′, ws .0) (foldl tabled (p, l) (xt .now))) (λ p′ ws. id⊢ 𝓤 _) (λ v′ p′ ws typed did.
       last-values t (λ long.
       -- [the room's last bytes 0; what the answer owns 1; the tokens 2; what is kept 3]
       move t (2 ∷ []) $ split t $ move t (1 ∷ []) $ split t $ move t (2 ∷ 5 ∷ 3 ∷ []) $ room-comes-back t tt xr l same room (ws .0) long $
@@ -114,7 +117,7 @@ write-routes-spec 𝓤 H 𝓜 𝓖 𝓡 =
     (known 𝓜 𝓡 code.env code.calls-routes·begin (begin-thm.met 𝓤 H 𝓜 𝓖 𝓡))
     ((tt, tt, tt, (n, (place, tt)), (vint w64 n ∷ [], (vint w64 place ∷ [], tt))), tt)
     (id⊢ 𝓤 _) (two ! (var ! 24 refl) (var ! 28 refl)) (pass-law 𝓤 H A W)
-    (λ p ws. p ≡ begun n place) (λ p ws. id⊢ 𝓤 _) (λ v₁ p₁ ws₁ typed₁ did₁.
+    (λ p ws. p ≡ begun n place routesCode mostPart) (λ p ws. id⊢ 𝓤 _) (λ v₁ p₁ ws₁ typed₁ did₁.
     drop ! $ move ! (1 ∷ []) $ drop ! $ lands-in ! 22 refl (typed₁ .0) $
     -- the first pass: [the state 0; the room 1; its token 2; the table's token 3; the table 4 5 6; the place 7; _12 8; …; _0 32]
     sets ! (addr ! (from ! (fld ! refl (hop ! (look-in ! 30 (sub ! 0 refl (whole !))) (stop !))))) 14 refl (tt, tt) $
@@ -125,7 +128,7 @@ write-routes-spec 𝓤 H 𝓜 𝓖 𝓡 =
     -- `turn_over`: [the state 0; the room 1; its token 2; the table's token 3; the table 4 5; the place 6; _12 7; …; _0 31]
     nothing ! $ has-usize ! n (room-r .0) $ fjoin ! $ move ! (1 ∷ 0 ∷ []) $ fjoin ! $ nothing ! $
     calls ! 𝓢 turn.ended (turn.clauses 𝓤 H A (𝓜 .mem) (𝓡 .run))
-    (known 𝓜 𝓡 code.env code.calls-routes·turn-over (turn-thm.met 𝓤 H 𝓜 𝓖 𝓡))
+    (known 𝓜 𝓡 code.env code.calls-laying·turn-over (turn-thm.met 𝓤 H 𝓜 𝓖 𝓡))
     ((tt, tt, tt, (p₂, (n, tt)), (v₂ ∷ [], (vint w64 n ∷ [], tt))), tt)
     (id⊢ 𝓤 _) (two ! (var ! 19 refl) (var ! 23 refl)) (pass-law 𝓤 H A W)
     (λ p ws. p ≡ turned p₂ n) (λ p ws. id⊢ 𝓤 _) (λ v₃ p₃ ws₃ typed₃ did₃.
@@ -139,7 +142,7 @@ write-routes-spec 𝓤 H 𝓜 𝓖 𝓡 =
     -- `answer`: [the state 0; the room 1; its token 2; the table's token 3; the table 4; the place 5; _12 6; …; _0 30]
     nothing ! $ move ! (1 ∷ 0 ∷ []) $ fjoin ! $ nothing ! $
     calls ! 𝓢 answer.ended (answer.clauses 𝓤 H A (𝓜 .mem) (𝓡 .run))
-    (known 𝓜 𝓡 code.env code.calls-routes·answer (answer-thm.met 𝓤 H 𝓜 𝓖 𝓡))
+    (known 𝓜 𝓡 code.env code.calls-laying·answer (answer-thm.met 𝓤 H 𝓜 𝓖 𝓡))
     ((tt, tt, tt, (p₄, tt), (v₄ ∷ [], tt)), tt) (id⊢ 𝓤 _) (and-then ! (var ! 14 refl) (no-more !)) (answer-law 𝓤 H A W)
     (λ r ws. said r ≡ answered p₄) (λ r ws. id⊢ 𝓤 _) (λ v r ws typed did.
     drop ! $ move ! (1 ∷ []) $ drop ! $ lands-in ! 30 refl (typed .0) $
