@@ -14,7 +14,7 @@ use Rattle.rfc.specs.Lists.{Bytes}
 use Rattle.rfc.specs.Routes.{Route, mostWidth, significant}
 use Rattle.rfc.specs.Classless.{masked, rowChecks, RouteRow, routeRows, RouteThere, noRoute, route, routeFrom}
 use Rattle.rfc.proofs.Numbers.{Refuses, Clear, first-is, none-first}
-use Rattle.rfc.proofs.Classless.{rowOf, row-12, from-2, from-4, from-end, from-rows, from-refused, from-route, cut-10, whole-clear, whole-to, whole-route, whole-rows}
+use Rattle.rfc.proofs.Classless.{routeRowOf, row-12, from-2, from-4, from-end, from-rows, from-refused, from-route, cut-10, whole-clear, whole-to, whole-route, whole-rows}
 use Rattle.classless.specs.Rows.{noneAt, foundTo, routeHere}
 use Rattle.classless.specs.declared.ReadRoute.{ReadRoute}
 
@@ -88,7 +88,7 @@ module _ (v : List ℕ) (place : ℕ) where
       next-refused k some r =
           rw (← refused-here k r)
           (record {
-            row = rowOf width rest;
+            row = routeRowOf width rest;
             more = _;
             rows = from-rows v place a b;
             number = sym (first-is r);
@@ -103,7 +103,7 @@ module _ (v : List ℕ) (place : ℕ) where
           let clear = whole-clear v place a b n least is h in
           rw (← here-route place _ _ _ (from-route v place a b clear))
           (record {
-            row = rowOf width rest;
+            row = routeRowOf width rest;
             more = _;
             rows = from-rows v place a b;
             number = sym (none-first clear);

@@ -14,8 +14,8 @@ use Rattle.facts.specs.Each.{Each}
 use Rattle.rfc.specs.Numbers.{Answer, given, refused, mostBytes, firstRefusal}
 use Rattle.rfc.specs.Routes.{Route}
 use Rattle.rfc.specs.Classless.{RouteRow, routeRows, allRowChecks, allRoutes, readRoutes, nth, routeAt}
-use Rattle.rfc.proofs.Numbers.{Refuses, Clear, done, refuses-front, refuses-behind, clear-both, is-first, is-none, Numbered, long, not-long, given-goes-on, refused-stands, given-no}
-use Rattle.rfc.proofs.Classless.{row-none-checks, row-checks, row-none-routes, row-routes, rows-numbered, read-2, read-refused, read-given, nth-4, nth-first, nth-later, nth-is}
+use Rattle.rfc.proofs.Numbers.{Refuses, Clear, done, refuses-front, refuses-behind, clear-both, is-first, is-none, Numbered, long, not-long, given-no}
+use Rattle.rfc.proofs.Classless.{row-none-checks, row-checks, row-none-routes, row-routes, rows-numbered, read-2, read-refused, read-given, nth-4, nth-first, nth-later, nth-is, at-refused, at-given}
 use Rattle.classless.specs.Rows.{noneAt, foundTo, countHere, indexHere, seenSo, stoppedBy, seen, scanned}
 use Rattle.classless.specs.declared.ReadRoute.{ReadRoute}
 use Rattle.classless.specs.declared.Scan.{Scan}
@@ -165,12 +165,11 @@ module _ (index : ℕ) (v : List ℕ) (s : Scan) (e : s ≡ scanned index v) whe
   found = indexHere (routeAt index v)
 
   refused-is : (k : ℕ) → readRoutes v ≡ refused k → noneAt k 0 ≡ found
-  unfolding indexHere routeAt
-  refused-is k h = rw (h, refused-stands (nth index) k)
+  unfolding indexHere
+  refused-is k h = rw (at-refused index k v h)
 
   given-is-at : (rs : List Route) (x : Answer Route) → readRoutes v ≡ given rs → nth index rs ≡ x → indexHere x ≡ found
-  unfolding routeAt
-  given-is-at rs x h g = rw (h, given-goes-on (nth index) rs, g)
+  given-is-at rs x h g = rw (at-given index v rs h, g)
 
   pub index-refused : 0 < s .refused → noneAt (s .refused) 0 ≡ found
   index-refused = by-value (λ x. 0 < x .refused → noneAt (x .refused) 0 ≡ found) (λ h g. refused-is 2 (read-2 v h)) by-rows

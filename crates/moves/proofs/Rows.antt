@@ -2,23 +2,22 @@
 -- Assumes nothing.
 use mathlib.Core.Path.{_≡_, refl, sym, ap, _∙_}
 use Prim.Native.Nat.{ℕ, _+_, _-_, _≤_, _<_, min}
-use mathlib.Core.Bool.{true, false, not}
+use mathlib.Core.Bool.{true, false}
 use mathlib.Core.List.{List, _∷_, _++_, map, foldl, foldl-append}
 use native.Mathlib.Omega.{arith}
 use native.Mathlib.Decide.{decLe}
-use borrow.Author.Tests.{lt-ltb, le-ltb, eq-eqb, ne-eqb}
+use borrow.Author.Tests.{lt-ltb, le-ltb}
 use lib.Dec.{lit<}
 use lib.ListN.{length, drop}
 use Rattle.facts.specs.BigEndian.{digits, number, numberAt}
-use Rattle.rfc.specs.Numbers.{given, firstRefusal}
+use Rattle.rfc.specs.Numbers.{firstRefusal}
 use Rattle.rfc.specs.Routes.{Route, significant, routeBytes}
 use Rattle.rfc.specs.Classless.{RouteRow}
 use Rattle.rfc.specs.Strung.{RowMade, allChecks, allBytes}
-use Rattle.rfc.specs.Moves.{widthFor, barred, pairRoute, routeOut, outRows, oldFormChecks, rowBack, backRows, backward}
-use Rattle.rfc.proofs.Numbers.{here, later, done, next as and-next, first-is, none-first, first-front, first-behind, Clear, clear-front, clear-behind}
-use Rattle.rfc.proofs.Routes.{length-route}
-use Rattle.rfc.proofs.Strung.{checks-more, bytes-more, given-strung}
-use Rattle.rfc.proofs.Moves.{out-more, back-more, back-rows, back-bytes, back-checks}
+use Rattle.rfc.specs.Moves.{widthFor, barred, pairRoute, routeOut, outRows, oldFormChecks, rowBack, backRows}
+use Rattle.rfc.proofs.Numbers.{none-first, first-front, first-behind, Clear, clear-front, clear-behind}
+use Rattle.rfc.proofs.Strung.{checks-more, bytes-more}
+use Rattle.rfc.proofs.Moves.{old-18, old-19, old-none, out-18, out-0, out-length, out-alike, out-route, out-more, back-more, back-rows, back-bytes, back-checks}
 use Rattle.laying.specs.Passes.{State, measured, gauged, put}
 use Rattle.laying.specs.declared.Pass.{Pass}
 use Rattle.laying.proofs.Passes.{measured-same, measured-stops}
@@ -39,47 +38,35 @@ module _ (row : ReadRoute) where
     of-move k e = rw (le-ltb 0 (row .refused) h) e
 
     pub number-18 : barred (row .destination) ≡ true → backNumber row ≡ 18
-    unfolding oldFormChecks
-    number-18 e = of-move 18 (first-is (here e))
+    number-18 e = of-move 18 (old-18 (routeOf row) e)
 
     module _ (free : barred (row .destination) ≡ false) where
       pub number-19 : (widthFor (row .destination) ≡ row .width → ⊥) → backNumber row ≡ 19
-      unfolding oldFormChecks
-      number-19 e = of-move 19 (first-is (later free (here (ap not (ne-eqb (widthFor (row .destination)) (row .width) e)))))
+      number-19 e = of-move 19 (old-19 (routeOf row) free e)
 
       pub number-none : widthFor (row .destination) ≡ row .width → backNumber row ≡ 0
-      unfolding oldFormChecks
-      number-none e = of-move 0 (none-first (and-next free (and-next (ap not (eq-eqb (widthFor (row .destination)) (row .width) e)) done)))
+      number-none e = of-move 0 (old-none (routeOf row) free e)
 
 -- a pair that is to be moved out, measured
-module _ (p : Pass) (d : ℕ) where
-  abbrev pairMade : ℕ → RowMade
-  pairMade router = routeOut (pairRoute d router)
+module _ (p : Pass) (d router : ℕ) where
+  abbrev pairMade : RowMade
+  pairMade = routeOut (pairRoute d router)
 
-  pub out-18 : (router n : ℕ) → barred d ≡ true → measured p 18 n ≡ gauged p (pairMade router)
-  unfolding routeOut pairRoute
-  out-18 router n e =
-      let m : RowMade = pairMade router in
-      let k : 18 ≡ firstRefusal (m .checks) = sym (first-is (here e)) in
-      measured-same p 18 n (length (m .bytes)) (lit< tt) ∙ ap (λ (j : ℕ). measured p j (length (m .bytes))) k
+  pub gauged-18 : (n : ℕ) → barred d ≡ true → measured p 18 n ≡ gauged p pairMade
+  gauged-18 n e =
+      measured-same p 18 n (length (pairMade .bytes)) (lit< tt)
+      ∙ ap (λ (k : ℕ). measured p k (length (pairMade .bytes))) (sym (out-18 d router e))
 
-  pub out-counted : (router n : ℕ) → barred d ≡ false → n ≡ min 4 (significant (widthFor d))
-      → measured p 0 (1 + n + 4) ≡ gauged p (pairMade router)
-  unfolding routeOut pairRoute
-  out-counted router n e is =
-      let m : RowMade = pairMade router in
-      let k : 0 ≡ firstRefusal (m .checks) = sym (none-first (and-next e done)) in
-      let l : 1 + n + 4 ≡ length (m .bytes) = sym (length-route (pairRoute d router) n is) in
-      λ i. measured p (k i) (l i)
+  pub gauged-bytes : (n : ℕ) → barred d ≡ false → n ≡ min 4 (significant (widthFor d)) → measured p 0 (1 + n + 4) ≡ gauged p pairMade
+  gauged-bytes n e is = λ i. measured p (sym (out-0 d router e) i) (sym (out-length d router n is) i)
 
   -- whatever its router is
-  any-router : (router other : ℕ) → gauged p (pairMade router) ≡ gauged p (pairMade other)
-  unfolding routeOut pairRoute
-  any-router router other =
+  any-router : (other : ℕ) → gauged p pairMade ≡ gauged p (routeOut (pairRoute d other))
+  any-router other =
       let n : ℕ = min 4 (significant (widthFor d)) in
-      let e : length (pairMade router .bytes) ≡ length (pairMade other .bytes) =
-      length-route (pairRoute d router) n refl ∙ sym (length-route (pairRoute d other) n refl) in
-      ap (λ (k : ℕ). measured p (firstRefusal (pairMade router .checks)) k) e
+      let e : length (pairMade .bytes) ≡ length (routeOut (pairRoute d other) .bytes) =
+      out-length d router n refl ∙ sym (out-length d other n refl) in
+      λ i. measured p (firstRefusal (out-alike d router other i)) (e i)
 
 -- one pair of a value
 module _ (v : List ℕ) (at : ℕ) (h : at + 8 ≤ length v) (d : ℕ) (is : d ≡ numberAt 4 v at) where
@@ -94,15 +81,14 @@ module _ (v : List ℕ) (at : ℕ) (h : at + 8 ≤ length v) (d : ℕ) (is : d �
   pub out-put : (s t : State) (w g : ℕ) → w ≡ widthFor d → g ≡ numberAt 4 v (at + 4)
       → t ≡ foldl put s (routeBytes (record { width = w; destination = d; gateway = g }))
       → foldl put t (allBytes (outRows (drop (at + 8) v))) ≡ foldl put s (allBytes (outRows (drop at v)))
-  unfolding routeOut pairRoute
   out-put s t w g rule via e =
       let behind : List RowMade = outRows (drop (at + 8) v) in
-      let r : Route = record { width = w; destination = d; gateway = g } in
-      let there : Route = pairRoute (numberAt 4 v at) (numberAt 4 v (at + 4)) in
-      let same : r ≡ there = λ i. record { width = (rule ∙ ap widthFor is) i; destination = is i; gateway = via i } in
-      ap (λ (x : State). foldl put x (allBytes behind)) (e ∙ ap (λ (x : Route). foldl put s (routeBytes x)) same)
-      ∙ sym (foldl-append put s (routeBytes there) (allBytes behind))
-      ∙ ap (foldl put s) (sym (ap allBytes (out-more v at h) ∙ bytes-more (routeOut there) behind))
+      let there : RowMade = routeOut (pairRoute (numberAt 4 v at) (numberAt 4 v (at + 4))) in
+      let same : routeBytes (record { width = w; destination = d; gateway = g }) ≡ there .bytes =
+      out-route d g w rule ∙ (λ i. routeOut (pairRoute (is i) (via i)) .bytes) in
+      ap (λ (x : State). foldl put x (allBytes behind)) (e ∙ ap (foldl put s) same)
+      ∙ sym (foldl-append put s (there .bytes) (allBytes behind))
+      ∙ ap (foldl put s) (sym (ap allBytes (out-more v at h) ∙ bytes-more there behind))
 
 -- one row of a value that is moved back
 module _ (v : List ℕ) (at : ℕ) (answer : ReadRoute) (next : NextRow v at answer) where
@@ -179,8 +165,3 @@ module _ (v : List ℕ) (at : ℕ) (answer : ReadRoute) (next : NextRow v at ans
     where
       clear-own : Clear (r .checks ++ oldFormChecks (r .route)) → answer .refused ≤ 0
       clear-own x = omega (arith, next .number, none-first (clear-front (r .checks) (oldFormChecks (r .route)) x))
-
--- where all rows of a value move back, no check of theirs holds
-pub moves-clear : (v : List ℕ) → backward v ≡ given (allBytes (backRows v)) → Clear (allChecks (backRows v))
-unfolding backward
-moves-clear v e = given-strung (backRows v) (allBytes (backRows v)) e .0

@@ -12,9 +12,9 @@ use Rattle.rfc.specs.Routes.{routesCode}
 use Rattle.rfc.specs.Strung.{RowMade, allBytes}
 use Rattle.rfc.specs.Moves.{pairsCode, outRows, backRows, backward, lentChecks, moveOut, moveBack}
 use Rattle.rfc.proofs.Numbers.{Clear}
-use Rattle.rfc.proofs.Strung.{Decides, strung-given}
+use Rattle.rfc.proofs.Strung.{Decides}
 use Rattle.rfc.proofs.Moved.{value-2, room-2, place-4, lent-clear, out-lent, out-10, out-decides, back-lent, back-decides}
-use Rattle.rfc.proofs.Moves.{out-counts, back-counts}
+use Rattle.rfc.proofs.Moves.{backward-given, out-counts, back-counts}
 use Rattle.encoder.specs.Written.{says, Wrote}
 use Rattle.encoder.specs.declared.Written.{Written}
 use Rattle.encoder.specs.declared.Written.the-variants.{Refused}
@@ -97,5 +97,4 @@ module _ (v room : List ℕ) (place : ℕ) where
   -- where it is written, all rows move back
   pub back-given : (p : Pass) → Settled (moveBack v room place) 248 pairsCode (backRows v) room place p → p .refusal ≤ 0
       → backward v ≡ given (allBytes (backRows v))
-  unfolding backward
-  back-given p s h = strung-given (backRows v) (settled-writes (moveBack v room place) 248 pairsCode (backRows v) room place p s h .0)
+  back-given p s h = backward-given v (settled-writes (moveBack v room place) 248 pairsCode (backRows v) room place p s h .0)

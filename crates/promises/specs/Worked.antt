@@ -371,19 +371,19 @@ OfStream =
     × (Fits (9 ∷ 9 ∷ []) (filling 2 1))
 
 -- a row that is good, and one that is refused
-abbrev pub good : RowMade
-good = record { checks = check false 18 ∷ []; bytes = 7 ∷ [] }
+abbrev pub goodRow : RowMade
+goodRow = record { checks = check false 18 ∷ []; bytes = 7 ∷ [] }
 
-abbrev pub bad : RowMade
-bad = record { checks = check false 18 ∷ check true 19 ∷ []; bytes = 8 ∷ [] }
+abbrev pub badRow : RowMade
+badRow = record { checks = check false 18 ∷ check true 19 ∷ []; bytes = 8 ∷ [] }
 
 abbrev pub OfStrung : Type 0
 OfStrung =
-    (firstRefusal (allChecks (good ∷ bad ∷ [])) ≡ 19)
-    × (allBytes (good ∷ bad ∷ []) ≡ 7 ∷ 8 ∷ [])
-    × (strung (good ∷ good ∷ []) ≡ given (7 ∷ 7 ∷ []))
-    × (strung (good ∷ bad ∷ []) ≡ refused 19)
-    × (writeStrung [] 2 33 (good ∷ good ∷ good ∷ []) .bytes ≡ 33 ∷ 2 ∷ 7 ∷ 7 ∷ 33 ∷ 1 ∷ 7 ∷ [])
+    (firstRefusal (allChecks (goodRow ∷ badRow ∷ [])) ≡ 19)
+    × (allBytes (goodRow ∷ badRow ∷ []) ≡ 7 ∷ 8 ∷ [])
+    × (strung (goodRow ∷ goodRow ∷ []) ≡ given (7 ∷ 7 ∷ []))
+    × (strung (goodRow ∷ badRow ∷ []) ≡ refused 19)
+    × (writeStrung [] 2 33 (goodRow ∷ goodRow ∷ goodRow ∷ []) .bytes ≡ 33 ∷ 2 ∷ 7 ∷ 7 ∷ 33 ∷ 1 ∷ 7 ∷ [])
 
 -- 10.0.0.0 by its network, and the default route, each through 192.0.2.1
 abbrev pub ten : List ℕ

@@ -17,14 +17,14 @@ use Rattle.facts.proofs.BigEndian.{number-digits, number-below, number-split, n
 use Rattle.rfc.specs.Numbers.{given, refused, mostBytes}
 use Rattle.rfc.specs.Lists.{Bytes}
 use Rattle.rfc.specs.Routes.{Route, mostWidth, significant, routeBytes, routesBytes}
-use Rattle.rfc.specs.Classless.{masked, asRead, Fitting, routeIn, behindWidth, rowChecks, RouteRow, routeRowsIn, routeRows, allRowChecks, allRoutes, readRoutes, nth, noRoute, route, routeAhead, routeFrom}
-use Rattle.rfc.proofs.Numbers.{Refuses, here, later, Clear, Numbered, done, next, refuses, clears, clear-both, long, not-long, past, not-past}
+use Rattle.rfc.specs.Classless.{masked, asRead, Fitting, routeIn, behindWidth, rowChecks, RouteRow, routeRowsIn, routeRows, allRowChecks, allRoutes, readRoutes, nth, routeAt, noRoute, route, routeAhead, routeFrom}
+use Rattle.rfc.proofs.Numbers.{Refuses, here, later, Clear, Numbered, given-goes-on, refused-stands, done, next, refuses, clears, clear-both, long, not-long, past, not-past}
 use Rattle.rfc.proofs.Bytes.{byte-below, bytes-take, bytes-drop, bytes-digits}
 use Rattle.rfc.proofs.Places.{drop-one}
 use Rattle.rfc.proofs.Routes.{significant-least, significant-covers, routes-none, routes-more}
 
-abbrev pub rowOf : ℕ → List ℕ → RouteRow
-rowOf width rest = record { checks = rowChecks width rest; route = routeIn width rest }
+abbrev pub routeRowOf : ℕ → List ℕ → RouteRow
+routeRowOf width rest = record { checks = rowChecks width rest; route = routeIn width rest }
 
 -- more rows to look at change nothing, where there are enough
 enough : (k m : ℕ) (v : List ℕ) → length v ≤ k → length v ≤ m → routeRowsIn k v ≡ routeRowsIn m v
@@ -37,17 +37,17 @@ enough (suc k) zero (x ∷ v) h g = absurd (not-suc-le-zero g)
 enough (suc k) (suc m) [] h g = refl
 enough (suc k) (suc m) (x ∷ v) h g =
     let d = length-drop (behindWidth x) v in
-    ap (λ (rs : List RouteRow). rowOf x v ∷ rs) (enough k m (drop (behindWidth x) v) (omega arith) (omega arith))
+    ap (λ (rs : List RouteRow). routeRowOf x v ∷ rs) (enough k m (drop (behindWidth x) v) (omega arith) (omega arith))
 
 pub rows-none : routeRows [] ≡ []
 unfolding routeRows routeRowsIn
 rows-none = refl
 
-pub rows-more : (width : ℕ) (rest : List ℕ) → routeRows (width ∷ rest) ≡ rowOf width rest ∷ routeRows (drop (behindWidth width) rest)
+pub rows-more : (width : ℕ) (rest : List ℕ) → routeRows (width ∷ rest) ≡ routeRowOf width rest ∷ routeRows (drop (behindWidth width) rest)
 unfolding routeRows routeRowsIn
 rows-more width rest =
     let behind : List ℕ = drop (behindWidth width) rest in
-    ap (λ (rs : List RouteRow). rowOf width rest ∷ rs)
+    ap (λ (rs : List RouteRow). routeRowOf width rest ∷ rs)
     (enough (length rest) (length behind) behind (omega (arith, length-drop (behindWidth width) rest)) (le-refl _))
 
 -- a row is clear exactly where it is no wider than 32 and not cut
@@ -127,6 +127,14 @@ unfolding nth
 nth-is index [] h = absurd (not-suc-le-zero h)
 nth-is zero (r ∷ rs) h = (r, refl)
 nth-is (suc index) (r ∷ rs) h = nth-is index rs (omega arith)
+
+pub at-refused : (index k : ℕ) (v : List ℕ) → readRoutes v ≡ refused k → routeAt index v ≡ refused k
+unfolding routeAt
+at-refused index k v e = rw e (refused-stands (nth index) k)
+
+pub at-given : (index : ℕ) (v : List ℕ) (rs : List Route) → readRoutes v ≡ given rs → routeAt index v ≡ nth index rs
+unfolding routeAt
+at-given index v rs e = rw e (given-goes-on (nth index) rs)
 
 -- no bit is left, or those at the top
 pub masked-none : (address : ℕ) → address < 2 ^ 32 → masked 0 address ≡ 0
@@ -310,7 +318,7 @@ module _ (v : List ℕ) (place : ℕ) where
       behind = drop (place + 1) v
 
       -- the rows from the place on
-      pub from-rows : routeRows (drop place v) ≡ rowOf w behind ∷ routeRows (drop (behindWidth w) behind)
+      pub from-rows : routeRows (drop place v) ≡ routeRowOf w behind ∷ routeRows (drop (behindWidth w) behind)
       from-rows = ap routeRows (drop-one v place b) ∙ rows-more w behind
 
       pub from-refused : (k : ℕ) → Refuses (rowChecks w behind) k → routeFrom v place ≡ refused k

@@ -19,18 +19,18 @@ use Rattle.facts.specs.Ranges.{within, lookup}
 use Rattle.facts.proofs.BigEndian.{number-digits, number-below, writes-back, high-digits, number-there, some}
 use Rattle.facts.proofs.Ranges.{one-answer}
 use Rattle.facts.proofs.Pieces.{pieces-more, pieces-none, flatten-pieces}
-use Rattle.rfc.specs.Numbers.{given}
+use Rattle.rfc.specs.Numbers.{given, firstRefusal}
 use Rattle.rfc.specs.Kinds.{sizeOf, sizes}
 use Rattle.rfc.specs.Lists.{Bytes}
 use Rattle.rfc.specs.Routes.{Route, mostWidth, significant, routeBytes}
 use Rattle.rfc.specs.Classless.{masked, asRead, Fitting, routeIn, behindWidth, rowChecks, RouteRow, routeRows}
 use Rattle.rfc.specs.Strung.{RowMade, allChecks, allBytes}
 use Rattle.rfc.specs.Moves.{octet, classes, widthFor, barred, pairRoute, routeOut, pairOut, outRows, outward, oldFormChecks, rowBack, backRows, backward}
-use Rattle.rfc.proofs.Numbers.{Clear, done, next, clear-both, clear-front, clear-behind, Numbered, numbered-both}
+use Rattle.rfc.proofs.Numbers.{here as now-refuses, later as then-refuses, Clear, done, next, clear-both, clear-front, clear-behind, first-is, none-first, Numbered, numbered-both}
 use Rattle.rfc.proofs.Bytes.{byte-below, bytes-take, bytes-drop}
 use Rattle.rfc.proofs.Routes.{significant-least, length-route}
 use Rattle.rfc.proofs.Strung.{checks-none, checks-more, bytes-none, bytes-more, strung-given, given-strung}
-use Rattle.rfc.proofs.Classless.{rowOf, rows-none, rows-more, clear-row, whole-bytes, restOf, rows-front, back-clear, rows-numbered}
+use Rattle.rfc.proofs.Classless.{routeRowOf, rows-none, rows-more, clear-row, whole-bytes, restOf, rows-front, back-clear, rows-numbered}
 
 -- a width that the rule gives a destination: whole bytes, and no bit behind them
 pub record Ruled (d w : ℕ) : Type 0 where
@@ -133,14 +133,14 @@ abbrev pub Pair : List ℕ → Type 0
 Pair p = (length p ≡ 8) × Bytes p
 
 -- the route of a pair
-abbrev pub routeOf : List ℕ → Route
-routeOf p = pairRoute (number (take 4 p)) (number (drop 4 p))
+abbrev pub routeOfPair : List ℕ → Route
+routeOfPair p = pairRoute (number (take 4 p)) (number (drop 4 p))
 
-not-barred : (p : List ℕ) → Clear (pairOut p .checks) → barred (routeOf p .destination) ≡ false
+not-barred : (p : List ℕ) → Clear (pairOut p .checks) → barred (routeOfPair p .destination) ≡ false
 unfolding pairOut routeOut
 not-barred p (next free c) = free
 
-pub out-bytes : (p : List ℕ) → pairOut p .bytes ≡ routeBytes (routeOf p)
+pub out-bytes : (p : List ℕ) → pairOut p .bytes ≡ routeBytes (routeOfPair p)
 unfolding pairOut routeOut
 out-bytes p = refl
 
@@ -153,9 +153,9 @@ unfolding rowBack
 back-bytes r = refl
 
 -- a pair whose destination is not barred, moved out, with anything behind it, is the first row, and goes back to the pair
-module _ (p : List ℕ) (pair : Pair p) (free : barred (routeOf p .destination) ≡ false) (more : List ℕ) where
+module _ (p : List ℕ) (pair : Pair p) (free : barred (routeOfPair p .destination) ≡ false) (more : List ℕ) where
   abbrev r : Route
-  r = routeOf p
+  r = routeOfPair p
 
   first : (digits 4 (number (take 4 p)) ≡ take 4 p) × (number (take 4 p) < 2 ^ 32)
   first = four-back (take 4 p) (omega (arith, length-take 4 p, pair .0)) (bytes-take 4 p (pair .1))
@@ -191,7 +191,7 @@ module _ (p : List ℕ) (pair : Pair p) (free : barred (routeOf p .destination) 
       let row : RouteRow = record { checks = rowChecks (r .width) (restOf r more); route = r } in
       let front : ms ≡ rowBack row ∷ map rowBack (routeRows more) =
       is ∙ ap (map rowBack) (rows-front r fit more)
-      ∙ ap (λ (x : Route). rowBack (record { checks = rowChecks (r .width) (restOf r more); route = x }) ∷ map rowBack (routeRows more)) same in
+      ∙ ap (λ (x : Route). rowBack (record { checks = row .checks; route = x }) ∷ map rowBack (routeRows more)) same in
       rw (front, checks-more (rowBack row) (map rowBack (routeRows more)), bytes-more (rowBack row) (map rowBack (routeRows more))) (
         clear-both (clear-both (back-clear r fit more) old-form) later,
         ap (λ (l : List ℕ). l ++ allBytes (map rowBack (routeRows more))) bytes-back,
@@ -209,7 +209,7 @@ all-back (p ∷ ps) each clear =
     let behind : List ℕ = allBytes ms in
     let later = all-back ps (each .1) (clear-behind (pairOut p .checks) both) in
     let free = not-barred p (clear-front (pairOut p .checks) (allChecks ms) both) in
-    let here = one-back p (each .0) free behind (map rowBack (routeRows (routeBytes (routeOf p) ++ behind))) refl (later .0) in
+    let here = one-back p (each .0) free behind (map rowBack (routeRows (routeBytes (routeOfPair p) ++ behind))) refl (later .0) in
     rw (bytes-more (pairOut p) ms, out-bytes p) (here .0, here .1 ∙ ap (λ (l : List ℕ). p ++ l) (later .1))
 
 -- a list of whole pairs
@@ -230,7 +230,7 @@ pairs-come-back v moved b even e =
     rw (← out .1) (strung-given _ (back .0) ∙ ap given (back .1 ∙ flatten-pieces 8 (lit< tt) v))
 
 -- a row that moves back, with its bytes: the pair that it gives is a whole one, and moves out to the row
-module _ (w : ℕ) (rest : List ℕ) (b : Bytes rest) (clear : Clear (rowBack (rowOf w rest) .checks)) where
+module _ (w : ℕ) (rest : List ℕ) (b : Bytes rest) (clear : Clear (rowBack (routeRowOf w rest) .checks)) where
   abbrev n : ℕ
   n = significant w
 
@@ -290,7 +290,7 @@ module _ (w : ℕ) (rest : List ℕ) (b : Bytes rest) (clear : Clear (rowBack (r
   abbrev pair : List ℕ
   pair = digits 4 (theRoute .destination) ++ digits 4 (theRoute .gateway)
 
-  pair-is : routeOf pair ≡ theRoute
+  pair-is : routeOfPair pair ≡ theRoute
   unfolding pairRoute routeIn
   pair-is =
       let d : number (take 4 pair) ≡ theRoute .destination = number-digits 4 (theRoute .destination) destination-low in
@@ -313,8 +313,8 @@ module _ (w : ℕ) (rest : List ℕ) (b : Bytes rest) (clear : Clear (rowBack (r
       × (allBytes (pairOut pair ∷ ms) ≡ w ∷ (take (behindWidth w) rest ++ allBytes ms))
   unfolding behindWidth pairOut routeOut
   one-out ms =
-      let free : barred (routeOf pair .destination) ≡ false = ap (λ (r : Route). barred (r .destination)) pair-is ∙ old-is .0 in
-      let bytes : routeBytes (routeOf pair) ≡ w ∷ take (n + 4) rest = ap routeBytes pair-is ∙ row-bytes in
+      let free : barred (routeOfPair pair .destination) ≡ false = ap (λ (r : Route). barred (r .destination)) pair-is ∙ old-is .0 in
+      let bytes : routeBytes (routeOfPair pair) ≡ w ∷ take (n + 4) rest = ap routeBytes pair-is ∙ row-bytes in
       rw (checks-more (pairOut pair) ms, bytes-more (pairOut pair) ms)
       ((λ later. clear-both (next free done) later), ap (λ (l : List ℕ). l ++ allBytes ms) bytes)
 
@@ -332,7 +332,7 @@ all-out zero [] h b clear = none-out
 all-out zero (w ∷ rest) h b clear = absurd (not-suc-le-zero h)
 all-out (suc k) [] h b clear = none-out
 all-out (suc k) (w ∷ rest) h b clear =
-    let row : RouteRow = rowOf w rest in
+    let row : RouteRow = routeRowOf w rest in
     let behind : List ℕ = drop (behindWidth w) rest in
     let ms : List RowMade = map rowBack (routeRows behind) in
     let both : Clear (rowBack row .checks ++ allChecks ms) = rw (rows-more w rest, checks-more (rowBack row) ms) at clear in
@@ -388,6 +388,53 @@ pub back-rows : (v : List ℕ) → map rowBack (routeRows v) ≡ backRows v
 unfolding backRows
 back-rows v = refl
 
+-- what a move makes of one row, by its number and its length
+module _ (r : Route) where
+  pub old-18 : barred (r .destination) ≡ true → firstRefusal (oldFormChecks r) ≡ 18
+  unfolding oldFormChecks
+  old-18 e = first-is (now-refuses e)
+
+  module _ (free : barred (r .destination) ≡ false) where
+    pub old-19 : (widthFor (r .destination) ≡ r .width → ⊥) → firstRefusal (oldFormChecks r) ≡ 19
+    unfolding oldFormChecks
+    old-19 e = first-is (then-refuses free (now-refuses (ap not (ne-eqb (widthFor (r .destination)) (r .width) e))))
+
+    pub old-none : widthFor (r .destination) ≡ r .width → firstRefusal (oldFormChecks r) ≡ 0
+    unfolding oldFormChecks
+    old-none e = none-first (next free (next (ap not (eq-eqb (widthFor (r .destination)) (r .width) e)) done))
+
+module _ (d router : ℕ) where
+  pub out-18 : barred d ≡ true → firstRefusal (routeOut (pairRoute d router) .checks) ≡ 18
+  unfolding routeOut pairRoute
+  out-18 e = first-is (now-refuses e)
+
+  pub out-0 : barred d ≡ false → firstRefusal (routeOut (pairRoute d router) .checks) ≡ 0
+  unfolding routeOut pairRoute
+  out-0 e = none-first (next e done)
+
+  pub out-length : (n : ℕ) → n ≡ min 4 (significant (widthFor d)) → length (routeOut (pairRoute d router) .bytes) ≡ 1 + n + 4
+  unfolding routeOut pairRoute
+  out-length n e = length-route (pairRoute d router) n e
+
+  -- whatever its router is
+  pub out-alike : (other : ℕ) → routeOut (pairRoute d router) .checks ≡ routeOut (pairRoute d other) .checks
+  unfolding routeOut pairRoute
+  out-alike other = refl
+
+  pub out-route : (w : ℕ) → w ≡ widthFor d
+      → routeBytes (record { width = w; destination = d; gateway = router }) ≡ routeOut (pairRoute d router) .bytes
+  unfolding routeOut pairRoute
+  out-route w e = ap (λ (k : ℕ). routeBytes (record { width = k; destination = d; gateway = router })) e
+
+-- a value whose rows all move back
+pub backward-given : (v : List ℕ) → Clear (allChecks (backRows v)) → backward v ≡ given (allBytes (backRows v))
+unfolding backward
+backward-given v c = strung-given (backRows v) c
+
+pub given-backward : (v : List ℕ) → backward v ≡ given (allBytes (backRows v)) → Clear (allChecks (backRows v))
+unfolding backward
+given-backward v e = given-strung (backRows v) (allBytes (backRows v)) e .0
+
 -- the checks of all rows have numbers
 pub out-counts : (v : List ℕ) → Each (λ (m : RowMade). Numbered (m .checks)) (outRows v)
 unfolding outRows pairOut routeOut
@@ -414,8 +461,8 @@ out-some v h =
     let behind : List RowMade = map pairOut (pieces 8 (drop 8 v)) in
     let e : allBytes (map pairOut (pieces 8 v)) ≡ pairOut p .bytes ++ allBytes behind =
     ap (λ (ps : List (List ℕ)). allBytes (map pairOut ps)) (pieces-more 8 (lit< tt) v h) ∙ bytes-more (pairOut p) behind in
-    let n : length (pairOut p .bytes) ≡ 1 + min 4 (significant (routeOf p .width)) + 4 =
-    ap length (out-bytes p) ∙ length-route (routeOf p) (min 4 (significant (routeOf p .width))) refl in
+    let n : length (pairOut p .bytes) ≡ 1 + min 4 (significant (routeOfPair p .width)) + 4 =
+    ap length (out-bytes p) ∙ length-route (routeOfPair p) (min 4 (significant (routeOfPair p .width))) refl in
     omega (arith, ap length e, length-append (pairOut p .bytes) (allBytes behind))
 
 pub back-some : (v : List ℕ) → 0 < length v → 0 < length (allBytes (backRows v))
@@ -423,8 +470,8 @@ unfolding backRows
 back-some [] h = absurd (not-suc-le-zero h)
 back-some (w ∷ rest) h =
     let behind : List RowMade = map rowBack (routeRows (drop (behindWidth w) rest)) in
-    let m : RowMade = rowBack (rowOf w rest) in
+    let m : RowMade = rowBack (routeRowOf w rest) in
     let e : allBytes (map rowBack (routeRows (w ∷ rest))) ≡ m .bytes ++ allBytes behind =
     ap (λ (rs : List RouteRow). allBytes (map rowBack rs)) (rows-more w rest) ∙ bytes-more m behind in
-    let n : length (m .bytes) ≡ 8 = ap length (back-bytes (rowOf w rest)) in
+    let n : length (m .bytes) ≡ 8 = ap length (back-bytes (routeRowOf w rest)) in
     omega (arith, ap length e, length-append (m .bytes) (allBytes behind))

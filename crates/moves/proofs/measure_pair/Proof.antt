@@ -5,7 +5,7 @@ use Prim.Native.Nat.{ℕ, min}
 use native.Mathlib.Omega.{arith}
 use borrow.Author.Needs.{needs}
 use Rattle.rfc.specs.Routes.{significant}
-use Rattle.moves.proofs.Rows.{out-18, out-counted}
+use Rattle.moves.proofs.Rows.{gauged-18, gauged-bytes}
 use Rattle.moves.proofs.measure_pair.Statement.{statement}
 use Rattle.moves.proofs.measure_pair.Tie as tie
 
@@ -13,7 +13,7 @@ returns : tie.Need-returns
 returns c =
     let a = c .before .before .before .args in
     let barred = c .before .before .is-barred in
-    c .measure .ensures ∙ out-18 (a .pass) (a .destination) 0 0 (sym (barred .ensures) ∙ c .before .if1 .taken)
+    c .measure .ensures ∙ gauged-18 (a .pass) (a .destination) 0 0 (sym (barred .ensures) ∙ c .before .if1 .taken)
 
 returns-2 : tie.Need-returns-2
 returns-2 c =
@@ -22,7 +22,7 @@ returns-2 c =
     let width = c .before .before .width-for in
     let n = c .before .significant in
     c .measure2 .ensures
-    ∙ out-counted (a .pass) (a .destination) 0 (n .result) (sym (barred .ensures) ∙ c .before .before .before .if1 .left)
+    ∙ gauged-bytes (a .pass) (a .destination) 0 (n .result) (sym (barred .ensures) ∙ c .before .before .before .if1 .left)
     (n .ensures ∙ ap (λ (w : ℕ). min 4 (significant w)) (width .ensures))
 
 pub measure-pair-spec : {M : Type 1} → statement M

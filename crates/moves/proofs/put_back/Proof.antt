@@ -11,10 +11,10 @@ use Rattle.rfc.specs.Strung.{allChecks, allBytes}
 use Rattle.rfc.specs.Moves.{backRows}
 use Rattle.rfc.proofs.Numbers.{Clear}
 use Rattle.rfc.proofs.Strung.{bytes-none}
-use Rattle.rfc.proofs.Moves.{back-none}
+use Rattle.rfc.proofs.Moves.{back-none, given-backward}
 use Rattle.laying.specs.Passes.{State, put}
 use Rattle.classless.proofs.Rows.{next-of}
-use Rattle.moves.proofs.Rows.{moves-clear, clear-on, back-put}
+use Rattle.moves.proofs.Rows.{clear-on, back-put}
 use Rattle.moves.proofs.put_back.Statement.{statement}
 use Rattle.moves.proofs.put_back.Tie as tie
 
@@ -30,7 +30,7 @@ abbrev μ-loop : tie.MeasureT-loop
 μ-loop room₀ value pass₀ at₀ room pass at = length value - at
 
 loop-holds : tie.Need-loop-holds Inv-loop μ-loop
-loop-holds c = (omega arith, c .before .before .pre .0, moves-clear (c .before .before .args .value .now) (c .before .before .pre .1), refl, refl)
+loop-holds c = (omega arith, c .before .before .pre .0, given-backward (c .before .before .args .value .now) (c .before .before .pre .1), refl, refl)
 
 loop-less : tie.Need-loop-less Inv-loop μ-loop
 loop-less c =
