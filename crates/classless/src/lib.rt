@@ -7,14 +7,15 @@ ghost use Rattle.rfc.specs.Routes as rfc;
 ghost use Rattle.rfc.specs.Classless as read;
 ghost use Rattle.laying.specs.Passes.{put};
 ghost use Rattle.classless.specs.Rows.{noneAt, routeHere, countHere, indexHere, stoppedBy, scanned};
+use laying::ADDRESS;
 use laying::Pass;
 use limits::MOST_BYTES;
 
-// The most bits of a subnet mask.
-const MOST_WIDTH: u8 = 32;
+// The code of classless static routes.
+pub const ROUTES_CODE: u8 = 121;
 
-// The bytes of an address.
-const ADDRESS: usize = 4;
+// The most bits of a subnet mask.
+pub const MOST_WIDTH: u8 = 32;
 
 // What begins at a place of a value: a route that was found; or nothing more, or the number of a refusal, where all else is 0 but for the
 // place. That is where the next row begins, behind the route; else it is the one that was given. A route by its index has 0 there.

@@ -12,7 +12,7 @@ use limits::MOST_BYTES;
 use limits::MOST_VALUE;
 
 // The bytes of an address.
-const ADDRESS: usize = 4;
+pub const ADDRESS: usize = 4;
 
 // What the highest of them counts.
 const HIGHEST: u32 = 16777216;

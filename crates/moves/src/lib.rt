@@ -12,20 +12,18 @@ ghost use Rattle.rfc.specs.Moves as rfc;
 ghost use Rattle.encoder.specs.Written.{Wrote};
 ghost use Rattle.laying.specs.Passes.{gauged, put};
 ghost use Rattle.moves.specs.Rows.{backNumber};
+use classless::ROUTES_CODE;
 use classless::ReadRoute;
 use encoder::Written;
+use laying::ADDRESS;
 use laying::Pass;
 use limits::MOST_BYTES;
 use limits::MOST_PART;
 
-// The codes of classless and of static routes.
-const ROUTES_CODE: u8 = 121;
-
+// The code of static routes.
 const PAIRS_CODE: u8 = 33;
 
-// The bytes of an address, of a pair, and of the most pairs of a part.
-const ADDRESS: usize = 4;
-
+// The bytes of a pair, and of the most pairs of a part.
 const PAIR: usize = 8;
 
 const PAIRS_PART: u8 = 248;

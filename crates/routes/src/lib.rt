@@ -7,18 +7,12 @@ ghost use Rattle.rfc.specs.Routes as rfc;
 ghost use Rattle.encoder.specs.Written.{Wrote};
 ghost use Rattle.laying.specs.Passes.{begun, gauged, passed};
 ghost use Rattle.routes.specs.Rows.{rowsOf, madeOf, tabled};
+use classless::MOST_WIDTH;
+use classless::ROUTES_CODE;
 use encoder::Written;
+use laying::ADDRESS;
 use laying::Pass;
 use limits::MOST_PART;
-
-// The code of classless static routes.
-const ROUTES_CODE: u8 = 121;
-
-// The most bits of a subnet mask.
-const MOST_WIDTH: u8 = 32;
-
-// The bytes of an address.
-const ADDRESS: usize = 4;
 
 // A route: the width of its subnet mask, its destination and its gateway. Programs in other languages lend tables of it.
 #[repr(C)]
