@@ -9,7 +9,7 @@ use native.Mathlib.Omega.{arith}
 use native.Mathlib.Nat.{not-suc-le-zero, le-refl, mul-lt-mul-of-pos-right}
 use lib.Pow.{pow-add}
 use lib.Dec.{eqb, ltb, lit<, lit≤}
-use lib.ListN.{length, take, drop, length-append, length-take, length-drop, take-append-drop}
+use lib.ListN.{length, take, drop, length-append, length-take, length-drop, take-append-drop, drop-of-length-le}
 use lib.Seq.{length-take-le, take-add, take-take, drop-drop, drop-at}
 use borrow.Author.Tests.{eqb-true, eq-eqb, ne-eqb, not-false}
 use Rattle.facts.specs.BigEndian.{number, numberAt, digits}
@@ -360,6 +360,10 @@ pub out-none : outRows [] ≡ []
 unfolding outRows sizeOf sizes
 out-none = ap (map pairOut) (pieces-none 8)
 
+-- behind the last there is none
+pub out-ended : (v : List ℕ) (at : ℕ) → length v ≤ at → outRows (drop at v) ≡ []
+out-ended v at h = ap outRows (drop-of-length-le v {i = at} h) ∙ out-none
+
 pub out-more : (v : List ℕ) (at : ℕ) → at + 8 ≤ length v
     → outRows (drop at v) ≡ routeOut (pairRoute (numberAt 4 v at) (numberAt 4 v (at + 4))) ∷ outRows (drop (at + 8) v)
 unfolding outRows pairOut sizeOf sizes
@@ -379,6 +383,9 @@ out-more v at h =
 pub back-none : backRows [] ≡ []
 unfolding backRows
 back-none = ap (map rowBack) rows-none
+
+pub back-ended : (v : List ℕ) (at : ℕ) → length v ≤ at → backRows (drop at v) ≡ []
+back-ended v at h = ap backRows (drop-of-length-le v {i = at} h) ∙ back-none
 
 pub back-more : (rows : List RouteRow) (r : RouteRow) (v : List ℕ) → routeRows v ≡ r ∷ rows → backRows v ≡ rowBack r ∷ map rowBack rows
 unfolding backRows

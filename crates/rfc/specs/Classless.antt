@@ -43,7 +43,7 @@ pub record RouteRow : Type 0 where
   pub checks : List Check
   pub route : Route
 
--- the rows of a value, looking at no more than so many. Behind a row that is refused nothing counts
+-- the rows of a value, looking at no more than so many. What stands behind a row that is refused is no row, but the first refusal decides
 unfoldable pub routeRowsIn : ℕ → List ℕ → List RouteRow
 routeRowsIn zero v = []
 routeRowsIn (suc k) [] = []

@@ -43,7 +43,7 @@ barred destination = eqb destination 0 || ltb 223 (octet destination)
 unfoldable pub pairRoute : ℕ → ℕ → Route
 pairRoute destination router = record { width = widthFor destination; destination = destination; gateway = router }
 
--- what is made of it
+-- what is made of such a route: 18, and its bytes
 unfoldable pub routeOut : Route → RowMade
 routeOut r = record { checks = check (barred (r .destination)) 18 ∷ []; bytes = routeBytes r }
 
@@ -58,7 +58,7 @@ outRows v = map pairOut (pieces (sizeOf 3) v)
 unfoldable pub outward : List ℕ → Answer (List ℕ)
 outward v = strung (outRows v)
 
--- 19: the rule gives the destination another width
+-- 18; then 19: the rule gives the destination another width
 unfoldable pub oldFormChecks : Route → List Check
 oldFormChecks r = check (barred (r .destination)) 18 ∷ check (not (eqb (widthFor (r .destination)) (r .width))) 19 ∷ []
 
@@ -81,7 +81,7 @@ backward v = strung (backRows v)
 unfoldable pub lentChecks : List ℕ → List ℕ → ℕ → List Check
 lentChecks v room place = check (tooLong v || tooLong room) 2 ∷ check (pastEnd place room) 4 ∷ []
 
--- 10: no list of whole pairs
+-- 10: the value is no list of whole pairs
 unfoldable pub pairsChecks : List ℕ → List Check
 pairsChecks v = check (breaks multiple (sizeOf 3) (length v)) 10 ∷ []
 

@@ -2,12 +2,12 @@
 -- Assumes nothing.
 use mathlib.Core.Path.{_≡_, refl, sym, ap, _∙_}
 use Prim.Native.Nat.{ℕ, _-_, _≤_}
-use mathlib.Core.List.{[], foldl}
+use mathlib.Core.List.{foldl}
 use native.Mathlib.Omega.{arith}
-use lib.ListN.{length, drop, drop-of-length-le}
+use lib.ListN.{length, drop}
 use borrow.Author.Needs.{needs}
 use Rattle.rfc.specs.Moves.{backRows}
-use Rattle.rfc.proofs.Moves.{back-none}
+use Rattle.rfc.proofs.Moves.{back-ended}
 use Rattle.laying.specs.Passes.{measured, gauged}
 use Rattle.moves.specs.Rows.{backNumber}
 use Rattle.classless.proofs.Rows.{next-of}
@@ -64,8 +64,7 @@ returns-2 : tie.Need-returns-2 Inv-loop μ-loop
 returns-2 c =
     let l = c .before .loop in
     let a = c .before .before .before .args in
-    let none : backRows (drop (l .at) (a .value .now)) ≡ [] =
-    ap backRows (drop-of-length-le (a .value .now) {i = l .at} (omega arith)) ∙ back-none in
+    let none = back-ended (a .value .now) (l .at) (omega arith) in
     ap (foldl gauged (l .pass)) (sym none) ∙ l .inv .2
 
 pub measure-back-spec : {M : Type 1} → statement M

@@ -2,12 +2,12 @@
 -- Assumes nothing.
 use mathlib.Core.Path.{_≡_, refl, sym, ap, _∙_}
 use Prim.Native.Nat.{_-_, _%_, _≤_}
-use mathlib.Core.List.{[], foldl}
+use mathlib.Core.List.{foldl}
 use native.Mathlib.Omega.{arith}
-use lib.ListN.{length, drop, drop-of-length-le}
+use lib.ListN.{length, drop}
 use borrow.Author.Needs.{needs}
 use Rattle.rfc.specs.Moves.{outRows}
-use Rattle.rfc.proofs.Moves.{out-none}
+use Rattle.rfc.proofs.Moves.{out-ended}
 use Rattle.laying.specs.Passes.{gauged}
 use Rattle.moves.proofs.Rows.{out-gauged}
 use Rattle.moves.proofs.measure_out.Statement.{statement}
@@ -41,8 +41,7 @@ returns : tie.Need-returns Inv-loop μ-loop
 returns c =
     let l = c .before .loop in
     let a = c .before .before .before .args in
-    let none : outRows (drop (l .at) (a .value .now)) ≡ [] =
-    ap outRows (drop-of-length-le (a .value .now) {i = l .at} (omega arith)) ∙ out-none in
+    let none = out-ended (a .value .now) (l .at) (omega arith) in
     ap (foldl gauged (l .pass)) (sym none) ∙ l .inv .3
 
 pub measure-out-spec : {M : Type 1} → statement M

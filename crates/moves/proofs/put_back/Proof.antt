@@ -2,16 +2,16 @@
 -- move back, so that none is refused.
 -- Assumes nothing.
 use mathlib.Core.Path.{_≡_, refl, sym, ap, _∙_}
-use Prim.Native.Nat.{ℕ, _-_, _≤_}
-use mathlib.Core.List.{List, [], foldl}
+use Prim.Native.Nat.{_-_, _≤_}
+use mathlib.Core.List.{foldl}
 use native.Mathlib.Omega.{arith}
-use lib.ListN.{length, drop, drop-of-length-le}
+use lib.ListN.{length, drop}
 use borrow.Author.Needs.{needs}
 use Rattle.rfc.specs.Strung.{allChecks, allBytes}
 use Rattle.rfc.specs.Moves.{backRows}
 use Rattle.rfc.proofs.Numbers.{Clear}
 use Rattle.rfc.proofs.Strung.{bytes-none}
-use Rattle.rfc.proofs.Moves.{back-none, given-backward}
+use Rattle.rfc.proofs.Moves.{back-ended, given-backward}
 use Rattle.laying.specs.Passes.{State, put}
 use Rattle.classless.proofs.Rows.{next-of}
 use Rattle.moves.proofs.Rows.{clear-on, back-put}
@@ -66,10 +66,7 @@ returns : tie.Need-returns Inv-loop μ-loop
 returns c =
     let l = c .before .loop in
     let a = c .before .before .before .before .args in
-    let none : allBytes (backRows (drop (l .at) (a .value .now))) ≡ [] =
-    ap (λ (x : List ℕ). allBytes (backRows x)) (drop-of-length-le (a .value .now) {i = l .at} (omega arith))
-    ∙ ap allBytes back-none
-    ∙ bytes-none in
+    let none = ap allBytes (back-ended (a .value .now) (l .at) (omega arith)) ∙ bytes-none in
     ap (foldl put (l .pass, l .room)) (sym none) ∙ l .inv .3
 
 pub put-back-spec : {M : Type 1} → statement M

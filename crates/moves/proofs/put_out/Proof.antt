@@ -1,15 +1,15 @@
 -- `put_out` meets its contract: the bytes of the pairs from where the loop stands give, from the state that it has, the same end.
 -- Assumes nothing.
 use mathlib.Core.Path.{_≡_, refl, sym, ap, _∙_}
-use Prim.Native.Nat.{ℕ, _-_, _%_, _≤_}
-use mathlib.Core.List.{List, [], foldl}
+use Prim.Native.Nat.{_-_, _%_, _≤_}
+use mathlib.Core.List.{foldl}
 use native.Mathlib.Omega.{arith}
-use lib.ListN.{length, drop, drop-of-length-le}
+use lib.ListN.{length, drop}
 use borrow.Author.Needs.{needs}
 use Rattle.rfc.specs.Strung.{allBytes}
 use Rattle.rfc.specs.Moves.{outRows}
 use Rattle.rfc.proofs.Strung.{bytes-none}
-use Rattle.rfc.proofs.Moves.{out-none}
+use Rattle.rfc.proofs.Moves.{out-ended}
 use Rattle.laying.specs.Passes.{State, put}
 use Rattle.moves.proofs.Rows.{out-put}
 use Rattle.moves.proofs.put_out.Statement.{statement}
@@ -53,10 +53,7 @@ returns : tie.Need-returns Inv-loop μ-loop
 returns c =
     let l = c .before .loop in
     let a = c .before .before .before .before .args in
-    let none : allBytes (outRows (drop (l .at) (a .value .now))) ≡ [] =
-    ap (λ (x : List ℕ). allBytes (outRows x)) (drop-of-length-le (a .value .now) {i = l .at} (omega arith))
-    ∙ ap allBytes out-none
-    ∙ bytes-none in
+    let none = ap allBytes (out-ended (a .value .now) (l .at) (omega arith)) ∙ bytes-none in
     ap (foldl put (l .pass, l .room)) (sym none) ∙ l .inv .3
 
 pub put-out-spec : {M : Type 1} → statement M
