@@ -1,5 +1,6 @@
 // The worked examples of writing, run: the parts and the bytes that each write takes, or its refusal; and what each typed writer writes.
 // Behind them lists of no element, read in both modes.
+#![tactic(auto)]
 use borrowed::answer::Step;
 use encoder::Written;
 use routes::Route;

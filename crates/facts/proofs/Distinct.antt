@@ -43,6 +43,15 @@ split : {n m i : ℕ} {ns : List ℕ} → At n i (m ∷ ns) → Split n m ns
 split (here n ns) = first refl
 split (later n m i ns a) = rest i a
 
+-- the same, with the place
+data Parted (n m i : ℕ) (ns : List ℕ) : Type 0 where
+  front : n ≡ m → i ≡ 0 → Parted n m i ns
+  back : (j : ℕ) → i ≡ suc j → At n j ns → Parted n m i ns
+
+parted : {n m i : ℕ} {ns : List ℕ} → At n i (m ∷ ns) → Parted n m i ns
+parted (here n ns) = front refl refl
+parted (later n m i ns a) = back i refl a
+
 -- another number than the first stands behind it
 pub at_later : {n m i : ℕ} {ns : List ℕ} → (m ≡ n → ⊥) → At n i (m ∷ ns) → (j : ℕ) × At n j ns
 at_later {n} {m} {i} {ns} d a = go (split a)
@@ -66,14 +75,17 @@ not_end (k ∷ ns) d (here _ _) = here k ns
 not_end (k ∷ ns) d (later n _ i _ a) = later n k i ns (not_end ns d a)
 
 pub end_only : {n i : ℕ} (ns : List ℕ) → ((j : ℕ) → At n j ns → ⊥) → At n i (ns ++ n ∷ []) → i ≡ length ns
-end_only [] o (here _ _) = refl
-end_only [] o (later _ _ i _ a) = absurd (let r = at_index a in omega (arith, r.0))
-end_only (k ∷ ns) o (here _ _) = absurd (o 0 (here k ns))
-end_only (k ∷ ns) o (later n _ i _ a) = ap suc (end_only ns (λ j b. o (suc j) (later n k j ns b)) a)
+end_only [] o a = let r = at_index a in omega (arith, r.0)
+end_only {n = n} {i = i} (k ∷ ns) o a = go (parted a) (λ j. end_only {n = n} {i = j} ns (λ l b. o (suc l) (later n k l ns b)))
+  where
+    go : Parted n k i (ns ++ n ∷ []) → ((j : ℕ) → At n j (ns ++ n ∷ []) → j ≡ length ns) → i ≡ suc (length ns)
+    go (front q z) r = absurd (o 0 (subst (λ (c : ℕ). At c 0 (k ∷ ns)) (sym q) (here k ns)))
+    go (back j e b) r = e ∙ ap suc (r j b)
 
 -- and this one is gone
 pub without_none : (k : ℕ) (ns : List ℕ) (i : ℕ) → At k i (without k ns) → ⊥
 unfolding without
+without_none k [] i a = elim a [ ]
 without_none k (n ∷ ns) i a = go (eqb n k) refl a (without_none k ns)
   where
     front : eqb n k ≡ false → ((l : ℕ) → At k l (without k ns) → ⊥) → Split k n (without k ns) → ⊥
@@ -87,7 +99,8 @@ without_none k (n ∷ ns) i a = go (eqb n k) refl a (without_none k ns)
 -- what is left was there
 pub without_from : {n : ℕ} (k : ℕ) (ns : List ℕ) (i : ℕ) → At n i (without k ns) → (j : ℕ) × At n j ns
 unfolding without
-without_from {n} k (m ∷ ns) i a = go (eqb m k) a (without_from k ns)
+without_from {n = n} k [] i a = elim a [ ]
+without_from {n = n} k (m ∷ ns) i a = go (eqb m k) a (without_from {n = n} k ns)
   where
     front : ((l : ℕ) → At n l (without k ns) → (j : ℕ) × At n j ns) → Split n m (without k ns) → (j : ℕ) × At n j (m ∷ ns)
     front r (first q) = (0, subst (λ (c : ℕ). At c 0 (m ∷ ns)) (sym q) (here m ns))
@@ -113,10 +126,16 @@ once_without k (n ∷ ns) o = go (eqb n k) (once_without k ns o.1)
     go false r = ((λ i a. let s = without_from k ns i a in o.0 s.0 s.1), r)
 
 pub once_same : {n i j : ℕ} {ns : List ℕ} → Once ns → At n i ns → At n j ns → i ≡ j
-once_same o (here n ns) (here _ _) = refl
-once_same o (here n ns) (later _ _ j _ b) = absurd (o.0 j b)
-once_same o (later n m i ns a) (here _ _) = absurd (o.0 i a)
-once_same o (later n m i ns a) (later _ _ j _ b) = ap suc (once_same o.1 a b)
+once_same {j = j} o (here n ns) b = go (parted b)
+  where
+    go : Parted n n j ns → 0 ≡ j
+    go (front q z) = sym z
+    go (back l e c) = absurd (o.0 l c)
+once_same {j = j} o (later n m i ns a) b = go (parted b) (λ l. once_same {j = l} o.1 a)
+  where
+    go : Parted n m j ns → ((l : ℕ) → At n l ns → i ≡ l) → suc i ≡ j
+    go (front q z) r = absurd (o.0 i (subst (λ (c : ℕ). At c i ns) q a))
+    go (back l e c) r = ap suc (r l c) ∙ sym e
 
 -- a number that stands at the end goes, and another stays
 without_append : (k : ℕ) (ns ms : List ℕ) → without k (ns ++ ms) ≡ without k ns ++ without k ms

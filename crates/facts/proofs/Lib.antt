@@ -8,11 +8,6 @@ pub mod Signs
 pub mod Cells
 pub mod Least
 pub mod Folds
-pub mod ByHand
-pub mod Steps
-pub mod Values
-pub mod Lending
-pub mod Walking
 pub mod Unique
 pub mod Distinct
 pub mod Marks

@@ -1,4 +1,5 @@
 // The message of the incident as the library reads it: 244 bytes whose hlen says 255, and the same with 39 bytes more.
+#![tactic(auto)]
 use borrowed::answer::Stop;
 use header::{Area, Chaddr, Header, Number, Part};
 use values::answer::Value;

@@ -1,4 +1,5 @@
 // The limits, each as one named number that all code cites. specs/Numbers.antt of `rfc` has the same numbers for the definitions.
+#![tactic(auto)]
 
 // The fewest bytes of a message.
 pub const LEAST_MESSAGE: usize = 240;

@@ -1,6 +1,7 @@
 // Lists the message on standard input: its header, its hardware address, its options and the stop of the walk; or, with the word `joined`
 // as its argument, its options in RFC 3396's reading. A sentence on standard error says what failed, or what the line of a message that is
 // refused or too long means; of a message that is listed nothing is said there.
+#![tactic(auto)]
 use encoder::Written;
 use header::Number;
 use limits::LEAST_MESSAGE;

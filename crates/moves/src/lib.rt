@@ -1,6 +1,7 @@
 // Profiles moved from static routes, option 33, to classless ones, option 121, and back: a value of one, written as the other at a place of a
 // lent room. The rows are gone over twice (`laying`): all are measured, the first bad one decides, and only then are bytes put. No table
 // stands in between.
+#![tactic(auto)]
 ghost use Rattle.std.specs.Prelude.{◌≡◌, ◌%◌, ◌≤◌, length};
 ghost use mathlib.Core.List.{◌++◌, foldl};
 ghost use Rattle.facts.specs.BigEndian.{digits};

@@ -4,6 +4,7 @@
 // A record is one byte of kind (1 an area, 2 a reading, 3 a write), the input's length (2 bytes, the highest first), the input, the
 // answer's length (2 bytes) and the answer. docs/RECORDED.md has what input and answer are. What is read of a record, and the page for what
 // the library says, are made once and lent to each.
+#![tactic(auto)]
 mod areas;
 mod pages;
 mod readings;

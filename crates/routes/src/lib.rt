@@ -1,5 +1,6 @@
 // Classless static routes, option 121, written into a lent room from a lent table of records. The table is gone over twice: its routes are
 // measured, then written (`laying`). What is done at a record is decided by the state of the pass; the loop over the records only goes on.
+#![tactic(auto)]
 ghost use Rattle.std.specs.Prelude.{◌≡◌};
 ghost use mathlib.Core.List.{[], ◌∷◌, foldl};
 ghost use Rattle.rfc.specs.Numbers.{most_part};

@@ -2,6 +2,7 @@
 // takes numbers and slices, and answers a plain struct by value. The boundary is several crates, an archive each: here nothing but
 // `sindovaleph_step` reaches the walk, and nothing but `sindovaleph_write_bytes` the writing of a value, so the compiler makes one piece of
 // each.
+#![tactic(auto)]
 ghost use Rattle.std.specs.Prelude.{◌≡◌};
 ghost use Rattle.rfc.specs.Header as rfc;
 ghost use Rattle.rfc.specs.Kinds.{kind_of};

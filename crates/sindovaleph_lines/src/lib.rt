@@ -1,4 +1,5 @@
 // The boundary to programs in Rust and in C, for the listing of a message as text.
+#![tactic(auto)]
 ghost use Rattle.rfc.specs.Writing.{into_room};
 ghost use Rattle.lines.specs.Listing.{listing};
 ghost use Rattle.crossing.specs.Carried.{Wrote};

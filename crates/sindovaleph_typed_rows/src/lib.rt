@@ -1,4 +1,5 @@
 // The boundary to programs in Rust and in C, for all options of an area and what each reads as, in one call.
+#![tactic(auto)]
 ghost use Rattle.values.specs.Reading.{mode_of};
 ghost use Rattle.sindovaleph_rows.specs.Listing.{Lists, typed};
 

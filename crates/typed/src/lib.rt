@@ -1,6 +1,7 @@
 // A writer for each kind of value, as the plain arms of the crate's `DhcpOption::encode` have it. Each takes a code of its kind, a
 // lent room and a place. Here are the kinds that hold one thing, and codes of options, which are cut as bytes are; the crate
 // `lists` has the other lists.
+#![tactic(auto)]
 pub mod checks;
 
 ghost use Rattle.std.specs.Prelude.{◌≡◌, cond, [], ◌∷◌};
