@@ -8,7 +8,7 @@
 #include <string.h>
 
 #define MOST_BYTES 65535
-#define MOST_VALUE 65024
+#define MOST_VALUE 4080
 #define END 255
 #define HOME_AGENTS 68
 #define RARE(test) __builtin_expect(test, 0)

@@ -22,12 +22,11 @@ pub enum Known {
     WideRoute,
     PadOrEndWritten,
     LongValueWritten,
-    LongListWritten,
 }
 
 impl Known {
     /// All kinds, in the order of their numbers.
-    pub const ALL: [Known; 14] = [
+    pub const ALL: [Known; 13] = [
         Known::AddressPastTheEnd,
         Known::LongMessage,
         Known::OtherMagic,
@@ -41,7 +40,6 @@ impl Known {
         Known::WideRoute,
         Known::PadOrEndWritten,
         Known::LongValueWritten,
-        Known::LongListWritten,
     ];
 
     /// Its short name.
@@ -59,8 +57,7 @@ impl Known {
             Known::BitsBehindWidth => "bits behind a route's width, read",
             Known::WideRoute => "a route's width above 32, read",
             Known::PadOrEndWritten => "codes 0 and 255, written",
-            Known::LongValueWritten => "a value of more than 65,024 bytes",
-            Known::LongListWritten => "a list that fits no room",
+            Known::LongValueWritten => "a value of more than 4,080 bytes",
         }
     }
 
@@ -84,7 +81,6 @@ impl Known {
             Known::WideRoute => "the crate answers the routes in front of it, ticket 6 refuses by 12",
             Known::PadOrEndWritten => "the crate writes code, length and value, document 01 refuses by 6",
             Known::LongValueWritten => "the crate writes it, document 01 refuses by 7",
-            Known::LongListWritten => "the crate writes more than 65,535 bytes, document 01 refuses by 8 in every room",
         }
     }
 }
@@ -118,12 +114,11 @@ pub fn routes(value: &[u8], theirs: &Reading) -> impl Iterator<Item = Known> {
     bits.into_iter().chain(wide)
 }
 
-/// The kind of difference where document 01 refuses what the crate writes, in a room that it fits in or the longest.
+/// The kind of difference where document 01 refuses what the crate writes.
 pub fn writing(refused: u8) -> Option<Known> {
     match refused {
         6 => Some(Known::PadOrEndWritten),
         7 => Some(Known::LongValueWritten),
-        8 => Some(Known::LongListWritten),
         _ => None,
     }
 }

@@ -46,7 +46,7 @@ enum {
     SINDOVALEPH_REFUSED_PAST_END = 4,            /* a place is past the end, or an index is not below the count */
     SINDOVALEPH_REFUSED_JOIN_TOO_SHORT = 5,      /* an option of several parts is longer than the join buffer */
     SINDOVALEPH_REFUSED_NO_SUCH_CODE = 6,        /* the code is 0 or 255, which have no value */
-    SINDOVALEPH_REFUSED_VALUE_TOO_LONG = 7,      /* the value to be written has more than 65,024 bytes */
+    SINDOVALEPH_REFUSED_VALUE_TOO_LONG = 7,      /* the value to be written has more than 4,080 bytes */
     SINDOVALEPH_REFUSED_NO_ROOM = 8,             /* what is to be written does not fit behind the place in the room */
     SINDOVALEPH_REFUSED_OTHER_KIND = 9,          /* a typed write names a code of another kind */
     SINDOVALEPH_REFUSED_WRONG_LENGTH = 10,       /* the value's length is wrong for its kind, or a route is cut */

@@ -19,7 +19,7 @@ numbered! {
         JoinTooShort = 5,
         /// The code is 0 or 255, which have no value.
         NoSuchCode = 6,
-        /// The value to be written has more than 65,024 bytes.
+        /// The value to be written has more than 4,080 bytes.
         ValueTooLong = 7,
         /// What is to be written does not fit from the place to the room's end.
         NoRoom = 8,
@@ -58,7 +58,7 @@ impl fmt::Display for Refusal {
             Refusal::PastEnd => "the place or the index is past the end",
             Refusal::JoinTooShort => "the room to join the option's parts in is too short",
             Refusal::NoSuchCode => "the codes 0 and 255 have no value",
-            Refusal::ValueTooLong => "the value has more than 65,024 bytes",
+            Refusal::ValueTooLong => "the value has more than 4,080 bytes",
             Refusal::NoRoom => "there is no room for what is to be written",
             Refusal::OtherKind => "the code is of another kind",
             Refusal::WrongLength => "the value's length is wrong for its kind",

@@ -9,18 +9,11 @@ use crate::value::NodeType;
 use core::fmt;
 use core::net::Ipv4Addr;
 
-/// The most addresses that a value has: 65,024 bytes.
-const MOST: usize = 16_256;
+/// The most addresses that a value has: 4,080 bytes.
+const MOST: usize = 1_020;
 
 /// As many as are laid out in passing.
 const FEW: usize = 16;
-
-/// Of a longer list, so many parts are laid out at a time.
-const PARTS: usize = 16;
-
-/// How many addresses a part of a list has, alone and in pairs.
-const ALONE: usize = 63;
-const PAIRED: usize = 62;
 
 /// A call that writes a list of addresses.
 type WriteNumbers = fn(&mut [u8], usize, u8, &[u32]) -> Written;
@@ -29,7 +22,7 @@ type WriteNumbers = fn(&mut [u8], usize, u8, &[u32]) -> Written;
 ///
 /// Each write moves the place behind what it wrote and changes exactly those bytes; a refusal changes nothing. Byte
 /// values go to every code from 1 to 254, typed ones to a code of their kind ([`kind_of`](crate::kind_of)), and
-/// [`Refusal::OtherKind`] tells another. A value has at most 65,024 bytes; above 255 it is written in parts, lists in
+/// [`Refusal::OtherKind`] tells another. A value has at most 4,080 bytes; above 255 it is written in parts, lists in
 /// parts of whole elements. An empty value or list writes nothing.
 pub struct Writer<'a> {
     room: &'a mut [u8],
@@ -151,14 +144,14 @@ impl<'a> Writer<'a> {
     #[inline]
     pub fn addresses(&mut self, code: u8, addresses: &[Ipv4Addr]) -> Result<(), Refusal> {
         let all = addresses.iter().copied();
-        self.numbers::<ALONE>(calls::write_addresses, code, addresses.len(), all)
+        self.numbers(calls::write_addresses, code, addresses.len(), all)
     }
 
     /// Pairs of addresses: an address and its mask, or a destination and its router.
     #[inline]
     pub fn pairs(&mut self, code: u8, pairs: &[(Ipv4Addr, Ipv4Addr)]) -> Result<(), Refusal> {
         let all = pairs.iter().flat_map(|&(first, second)| [first, second]);
-        self.numbers::<PAIRED>(calls::write_pairs, code, pairs.len().saturating_mul(2), all)
+        self.numbers(calls::write_pairs, code, pairs.len().saturating_mul(2), all)
     }
 
     /// Numbers of two bytes.
@@ -193,7 +186,7 @@ impl<'a> Writer<'a> {
     /// value made, which may be longer or shorter than `pairs`. An empty value writes nothing. `pairs` and the room are
     /// two slices: nothing is moved in place.
     ///
-    /// Given room, [`Writer::move_back`] makes the same pairs of it again, where they are 65,024 bytes or fewer.
+    /// Given room, [`Writer::move_back`] makes the same pairs of it again, where they are 4,080 bytes or fewer.
     ///
     /// ```
     /// use sindovaleph::{Options, Refusal, Writer, codes};
@@ -283,7 +276,7 @@ impl<'a> Writer<'a> {
 
     /// Addresses as the numbers that cross: few of them, as in most options.
     #[inline]
-    fn numbers<const A_PART: usize>(
+    fn numbers(
         &mut self,
         write: WriteNumbers,
         code: u8,
@@ -291,37 +284,23 @@ impl<'a> Writer<'a> {
         addresses: impl Iterator<Item = Ipv4Addr>,
     ) -> Result<(), Refusal> {
         if count > FEW {
-            return self.many_numbers::<A_PART>(write, code, count, addresses);
+            return self.many_numbers(write, code, addresses);
         }
         let written = write(self.room, self.place, code, filled(&mut [0; FEW], addresses));
         self.moved(written)
     }
 
-    /// The same of many, some whole parts at a time: so the longest list takes 4 KB of the stack. Whatever can refuse the
-    /// list is asked before any of it is written: what refuses an empty one, then its length, then the room.
+    /// The same of many. There is room for a pair more than a value has, which the library refuses; so what is longer and
+    /// left out here is refused too.
     #[cold]
-    fn many_numbers<const A_PART: usize>(
+    fn many_numbers(
         &mut self,
         write: WriteNumbers,
         code: u8,
-        count: usize,
-        mut addresses: impl Iterator<Item = Ipv4Addr>,
+        addresses: impl Iterator<Item = Ipv4Addr>,
     ) -> Result<(), Refusal> {
-        let none = write(self.room, self.place, code, &[]);
-        self.moved(none)?;
-        if count > MOST {
-            return Err(Refusal::ValueTooLong);
-        }
-        if self.room.len().saturating_sub(self.place) < 4 * count + 2 * count.div_ceil(A_PART) {
-            return Err(Refusal::NoRoom);
-        }
-        let mut numbers = [0; PARTS * ALONE];
-        for _ in 0..count.div_ceil(PARTS * A_PART) {
-            let some = filled(&mut numbers, addresses.by_ref().take(PARTS * A_PART));
-            let written = write(self.room, self.place, code, some);
-            self.moved(written)?;
-        }
-        Ok(())
+        let written = write(self.room, self.place, code, filled(&mut [0; MOST + 2], addresses));
+        self.moved(written)
     }
 
     /// Goes on behind what was written. A refusal answers the old place.

@@ -2,7 +2,7 @@
 
 mod common;
 
-use sindovaleph::{Ending, Message, NodeType, Options, Refusal, Route, RowRefused, Value, WriteRow, Writer, calls};
+use sindovaleph::{Message, NodeType, Options, Refusal, Route, RowRefused, Value, WriteRow, Writer, calls};
 use std::net::Ipv4Addr;
 
 type Write = dyn Fn(&mut Writer) -> Result<(), Refusal>;
@@ -97,9 +97,9 @@ fn what_else_is_refused() {
     let mut writer = Writer::new(&mut room);
     assert_eq!(writer.bytes(0, &[1]), Err(Refusal::NoSuchCode));
     assert_eq!(writer.bytes(255, &[]), Err(Refusal::NoSuchCode));
-    assert_eq!(writer.bytes(43, &[1; 65_025]), Err(Refusal::ValueTooLong));
+    assert_eq!(writer.bytes(43, &[1; 4081]), Err(Refusal::ValueTooLong));
     assert_eq!(writer.routes(&[Route::new(33, ADDRESS, ADDRESS)]), Err(Refusal::WidthAbove32));
-    for count in [16_257, 16_258, 20_000] {
+    for count in [1021, 1022, 5000] {
         assert_eq!(writer.addresses(3, &vec![ADDRESS; count]), Err(Refusal::ValueTooLong));
         assert_eq!(writer.pairs(33, &vec![(ADDRESS, ADDRESS); count / 2 + 1]), Err(Refusal::ValueTooLong));
     }
@@ -110,8 +110,8 @@ fn what_else_is_refused() {
 
 #[test]
 fn long_values_are_written_in_parts() {
-    let mut room = [0; 65_535];
-    for (len, takes) in [(0, 0), (255, 257), (256, 260), (4_080, 4_112), (4_081, 4_115), (65_024, 65_534)] {
+    let mut room = [0; 5000];
+    for (len, takes) in [(0, 0), (255, 257), (256, 260), (4080, 4112)] {
         let mut writer = Writer::new(&mut room);
         assert_eq!((writer.bytes(43, &vec![7; len]), writer.place()), (Ok(()), takes));
     }
@@ -120,143 +120,34 @@ fn long_values_are_written_in_parts() {
     assert_eq!((writer.addresses(3, &[]), writer.u16s(25, &[]), writer.place()), (Ok(()), Ok(()), 514));
 }
 
-/// Why a walk over an area that begins with code 43 ends at once, with so many bytes to join in.
-fn ends_at_once(area: &[u8], join: usize) -> Option<Ending> {
-    let mut join = vec![9; join];
-    let mut options = Options::new(area, &mut join);
-    assert_eq!((options.next(), options.place()), (Some(Err(Refusal::JoinTooShort)), 0));
-    let ending = options.ending();
-    assert!(join.iter().all(|&byte| byte == 9));
-    ending
-}
-
-/// The most bytes are written, closed and walked back; with less to join in than the value has, its length is told.
-#[test]
-fn the_longest_value_fills_an_area_with_its_end() {
-    let value: Vec<u8> = (0..65_025_u32).map(|i| (i % 241) as u8).collect();
-    let mut area = [9; 65_535];
-    let mut writer = Writer::new(&mut area);
-    assert_eq!(writer.bytes(43, &value), Err(Refusal::ValueTooLong));
-    assert_eq!((writer.bytes(43, &value[..65_024]), writer.place()), (Ok(()), 65_534));
-    assert_eq!((writer.close(), writer.place()), (Ok(()), 65_535));
-    for (room, answer) in [(65_534, Ok(())), (65_533, Err(Refusal::NoRoom)), (65_536, Err(Refusal::TooLong))] {
-        assert_eq!(Writer::new(&mut vec![9; room]).bytes(43, &value[..65_024]), answer);
-    }
-    let mut join = vec![0; 65_024];
-    let mut options = Options::new(&area, &mut join);
-    let opt = options.next().unwrap().unwrap();
-    assert_eq!((opt.code(), opt.parts(), opt.place()), (43, 255, 65_534));
-    assert!(opt.data() == &value[..65_024] && options.next().is_none() && options.is_closed());
-    for join in [4_080, 65_023] {
-        assert_eq!(ends_at_once(&area, join), Some(Ending::Needs(65_024)));
-    }
-    // Without an End an area has one byte more.
-    let area: Vec<u8> = value.chunks(255).flat_map(|part| [&[43, 255], part].concat()).collect();
-    assert_eq!((area.len(), ends_at_once(&area, 65_024)), (65_535, Some(Ending::Needs(65_025))));
-    let mut join = vec![0; 65_025];
-    assert_eq!(Options::new(&area, &mut join).next().unwrap().unwrap().data(), value);
-}
-
-/// Cut at whole elements, a list takes more parts than a byte value: the longest that are within the limit fit no room.
-#[test]
-fn long_lists_meet_the_room_before_the_limit() {
-    use Refusal::{NoRoom, ValueTooLong};
-    let address = |count| move |writer: &mut Writer| writer.addresses(3, &vec![ADDRESS; count]);
-    let pairs = |count| move |writer: &mut Writer| writer.pairs(33, &vec![(ADDRESS, ADDRESS); count]);
-    let u16s = |count| move |writer: &mut Writer| writer.u16s(25, &vec![7; count]);
-    let codes = |count| move |writer: &mut Writer| writer.codes(55, &vec![7; count]);
-    let text = |count| move |writer: &mut Writer| writer.text(12, &"a".repeat(count));
-    let writes: [(Box<Write>, Result<(), Refusal>, usize); 16] = [
-        (Box::new(address(16_254)), Ok(()), 65_532),
-        (Box::new(address(16_255)), Err(NoRoom), 0),
-        (Box::new(address(16_256)), Err(NoRoom), 0),
-        (Box::new(address(16_257)), Err(ValueTooLong), 0),
-        (Box::new(pairs(8_126)), Ok(()), 65_534),
-        (Box::new(pairs(8_127)), Err(NoRoom), 0),
-        (Box::new(pairs(8_128)), Err(NoRoom), 0),
-        (Box::new(pairs(8_129)), Err(ValueTooLong), 0),
-        (Box::new(pairs(usize::MAX / 1_000_000_000_000)), Err(ValueTooLong), 0),
-        (Box::new(u16s(32_511)), Ok(()), 65_534),
-        (Box::new(u16s(32_512)), Err(NoRoom), 0),
-        (Box::new(u16s(32_513)), Err(ValueTooLong), 0),
-        (Box::new(codes(65_024)), Ok(()), 65_534),
-        (Box::new(codes(65_025)), Err(ValueTooLong), 0),
-        (Box::new(text(65_024)), Ok(()), 65_534),
-        (Box::new(text(65_025)), Err(ValueTooLong), 0),
-    ];
-    for (write, answer, place) in writes {
-        let mut room = vec![9; 65_535];
-        let mut writer = Writer::new(&mut room);
-        assert_eq!((write(&mut writer), writer.place()), (answer, place));
-        assert!(room[place..].iter().all(|&byte| byte == 9));
-    }
-}
-
-/// Numbers, and the same as addresses and as pairs of them.
-struct Numbers {
-    plain: Vec<u32>,
-    addresses: Vec<Ipv4Addr>,
-    pairs: Vec<(Ipv4Addr, Ipv4Addr)>,
-}
-
-impl Numbers {
-    fn new(count: u32) -> Numbers {
-        let plain: Vec<u32> = (0..count).map(|i| i.wrapping_mul(0x0101_0101)).collect();
-        let addresses: Vec<Ipv4Addr> = plain.iter().copied().map(Ipv4Addr::from_bits).collect();
-        let pairs = addresses.chunks(2).map(|pair| (pair[0], pair[1])).collect();
-        Numbers { plain, addresses, pairs }
-    }
-
-    /// Written as addresses by the writer and as numbers by the call: the same answer, and the same is left.
-    fn agree(&self, code: u8, pair_code: u8, count: usize, room: usize, place: usize) {
-        let (mut ours, mut theirs) = (vec![9; room], vec![9; room]);
-        let mut writer = Writer::at(&mut ours, place);
-        let answer = writer.addresses(code, &self.addresses[..count]).map_or_else(Refusal::number, |()| 0);
-        let written = calls::write_addresses(&mut theirs, place, code, &self.plain[..count]);
-        assert_eq!((answer, writer.place()), (written.refused, written.place), "{count} addresses in {room} at {place}");
-        assert_eq!(ours, theirs);
-        let even = count / 2 * 2;
-        let mut writer = Writer::at(&mut ours, place);
-        let answer = writer.pairs(pair_code, &self.pairs[..count / 2]).map_or_else(Refusal::number, |()| 0);
-        let written = calls::write_pairs(&mut theirs, place, pair_code, &self.plain[..even]);
-        assert_eq!((answer, writer.place()), (written.refused, written.place), "{even} in pairs in {room} at {place}");
-        assert_eq!(ours, theirs);
-    }
-}
-
 #[test]
 fn addresses_and_pairs_are_written_as_their_numbers() {
-    let numbers = Numbers::new(16_260);
-    // Around each piece that is laid out at a time, the first ones and the last.
-    let pieces = [992, 1_008, 1_984, 2_016, 2_976, 3_024, 15_872, 16_128];
-    let counts: Vec<usize> = (0..=260).chain(pieces.iter().flat_map(|n| n - 3..=n + 3)).chain(16_240..=16_260).collect();
-    for count in counts {
-        for room in [600, 4_117, 65_535, 3 + 4 * count + 2 * count.div_ceil(63), 3 + 4 * count + 2 * count.div_ceil(62)] {
-            let near = (room.saturating_sub(1)..=room + 1).filter(|room| *room <= 65_536);
-            near.for_each(|room| numbers.agree(3, 33, count, room, 3.min(room)));
-        }
+    let numbers: Vec<u32> = (0..1030_u32).map(|i| i.wrapping_mul(0x0101_0101)).collect();
+    let addresses: Vec<Ipv4Addr> = numbers.iter().copied().map(Ipv4Addr::from_bits).collect();
+    let pairs: Vec<_> = addresses.chunks(2).map(|pair| (pair[0], pair[1])).collect();
+    // The longest value takes 4,080 bytes and 17 heads.
+    for (count, room) in (0..=1030).flat_map(|count| [(count, 3 + 4114), (count, 600)]) {
+        let (mut ours, mut theirs) = (vec![9; room], vec![9; room]);
+        let mut writer = Writer::at(&mut ours, 3);
+        let answer = writer.addresses(3, &addresses[..count]).map_err(Refusal::number).err().unwrap_or(0);
+        let written = calls::write_addresses(&mut theirs, 3, 3, &numbers[..count]);
+        assert_eq!((answer, writer.place()), (written.refused, written.place), "{count} addresses");
+        let even = count / 2 * 2;
+        let mut writer = Writer::at(&mut ours, written.place);
+        let answer = writer.pairs(33, &pairs[..count / 2]).map_err(Refusal::number).err().unwrap_or(0);
+        let written = calls::write_pairs(&mut theirs, written.place, 33, &numbers[..even]);
+        assert_eq!((answer, writer.place()), (written.refused, written.place), "{even} addresses in pairs");
+        assert_eq!(ours, theirs, "{count}");
     }
 }
 
-#[test]
-fn many_addresses_are_refused_as_few_are() {
-    let numbers = Numbers::new(16_260);
-    for count in [1, 17, 1_100, 16_258] {
-        for (code, pair_code) in [(3, 33), (0, 0), (255, 255), (33, 3), (53, 53)] {
-            for (room, place) in [(65_536, 0), (65_536, 65_537), (10, 11), (0, usize::MAX), (10, 10), (65_535, 65_535), (65_535, 0)] {
-                numbers.agree(code, pair_code, count, room, place);
-            }
-        }
-    }
-}
-
-/// Options of 4, 0, 5 and 262 bytes out of values of 70,000.
+/// Options of 4, 0, 5 and 262 bytes out of values of 5,000.
 const ROWS: [WriteRow; 4] =
-    [WriteRow::new(43, 0, 2), WriteRow::new(44, 70_000, 0), WriteRow::new(200, 1, 3), WriteRow::new(43, 2, 258)];
+    [WriteRow::new(43, 0, 2), WriteRow::new(44, 5_000, 0), WriteRow::new(200, 1, 3), WriteRow::new(43, 2, 258)];
 
-/// What the values of 70,000 bytes are.
+/// What the values of 5,000 bytes are.
 fn values() -> Vec<u8> {
-    (0..70_000).map(|i| i as u8).collect()
+    (0..5_000).map(|i| i as u8).collect()
 }
 
 /// Rows that are refused at place 2 of a room of so many bytes: the row that is told. All else stays as it is.
@@ -285,17 +176,16 @@ fn rows_are_written_one_behind_the_other() {
 #[test]
 fn a_refused_row_is_named_and_nothing_is_written() {
     let bad = [
-        (WriteRow::new(43, 70_000, 1), Refusal::PastEnd),
-        (WriteRow::new(43, 70_001, 0), Refusal::PastEnd),
+        (WriteRow::new(43, 5_000, 1), Refusal::PastEnd),
+        (WriteRow::new(43, 5_001, 0), Refusal::PastEnd),
         (WriteRow::new(43, usize::MAX, usize::MAX), Refusal::PastEnd),
         (WriteRow::new(0, 0, 1), Refusal::NoSuchCode),
         (WriteRow::new(255, 0, 0), Refusal::NoSuchCode),
-        (WriteRow::new(43, 0, 65_025), Refusal::ValueTooLong),
-        (WriteRow::new(43, 0, 65_024), Refusal::NoRoom),
+        (WriteRow::new(43, 0, 4_081), Refusal::ValueTooLong),
         (WriteRow::new(43, 0, 300), Refusal::NoRoom),
         // What comes first is told.
-        (WriteRow::new(0, 0, 70_001), Refusal::PastEnd),
-        (WriteRow::new(0, 0, 65_025), Refusal::NoSuchCode),
+        (WriteRow::new(0, 0, 5_001), Refusal::PastEnd),
+        (WriteRow::new(0, 0, 4_081), Refusal::NoSuchCode),
     ];
     for (wrong, refusal) in bad {
         for row in 0..ROWS.len() {
@@ -303,7 +193,7 @@ fn a_refused_row_is_named_and_nothing_is_written() {
             rows[row] = wrong;
             assert_eq!(refused_row(&rows, 300), RowRefused { row, refusal }, "{rows:?}");
             // The first of two decides.
-            rows[3] = if row < 3 { WriteRow::new(0, 70_001, 0) } else { wrong };
+            rows[3] = if row < 3 { WriteRow::new(0, 5_001, 0) } else { wrong };
             assert_eq!(refused_row(&rows, 300), RowRefused { row, refusal }, "{rows:?}");
         }
     }

@@ -83,7 +83,6 @@ fn run() -> Result<(), String> {
     sample.areas()?;
     sample.readings()?;
     sample.writes()?;
-    sample.long_ones()?;
     save(Path::new(&path), &sample.bytes()?)?;
     println!("{} areas", sample.count(Asked::Area));
     println!("{} readings", sample.count(Asked::Reading));
@@ -282,31 +281,6 @@ impl Sample {
     }
 }
 
-/// Values of more than 4,080 bytes.
-impl Sample {
-    /// Behind all others, so that these stay as they are: values in an area, whose answer has to have 65,535 bytes at most too; the most
-    /// bytes that the library writes, and the longest lists that fit a room.
-    fn long_ones(&mut self) -> Result<(), String> {
-        for length in [4_081, 32_000] {
-            let option = recorded::writing_bytes(43, &counting(length))?.answer;
-            self.area(&[&option[..], &[255]].concat())?;
-        }
-        for (code, length) in [(43, 4_081), (66, 65_023), (43, 65_024)] {
-            self.keep(recorded::writing_bytes(code, &counting(length))?);
-        }
-        for (code, count) in [(65, 16_254), (33, 8_126), (25, 32_511), (55, 65_024)] {
-            let kind = recorded::kind(code).ok_or("no list")?;
-            self.write(code, &counting(count * element_size(kind)))?;
-        }
-        self.write(17, &b"boot/image-7".repeat(5_419)[..65_024])
-    }
-}
-
-/// So many bytes that count, and begin anew at a number that no part's length is a multiple of.
-fn counting(length: usize) -> Vec<u8> {
-    (0..length).map(|at| (at % 241) as u8).collect()
-}
-
 /// Writes.
 impl Sample {
     fn writes(&mut self) -> Result<(), String> {
@@ -353,7 +327,7 @@ impl Sample {
         Ok(())
     }
 
-    /// Values and lists around each cut: one part, two parts, and 16.
+    /// Values and lists around each cut: one part, two parts, and the most that the library writes.
     fn long_values(&mut self) -> Result<(), String> {
         for (code, length) in
             [(43, 254), (121, 255), (200, 256), (12, 509), (61, 510), (3, 511), (254, 1021), (1, 4079), (66, 4080)]

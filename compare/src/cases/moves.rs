@@ -15,19 +15,16 @@ use std::iter;
 /// The code of classless routes.
 const CODE: u8 = 121;
 
-/// The refusals of a value that is too long to be written, and of one that there is no room for.
+/// The refusal of a value that is too long to be written.
 const TOO_LONG: u8 = 7;
-const NO_ROOM: u8 = 8;
 
 /// A longer value is read from the places of its rows only, and of more routes than a few only the first and the last are asked for by
 /// their indexes.
 const SHORT: usize = 300;
 const FEW: usize = 8;
 
-/// The bytes of a room that a move of this value fits in, or of the longest. A row of a route has five bytes or more, and a pair eight.
-fn large_room(value: &[u8]) -> usize {
-    MOST_BYTES.min(2 * value.len() + 2)
-}
+/// A room that every move fits in.
+const LARGE_ROOM: usize = 5_000;
 
 /// The two ways of a move.
 #[derive(Clone, Copy, Debug, PartialEq)]
@@ -56,14 +53,9 @@ impl Way {
         }
     }
 
-    /// The most bytes of a part that it writes.
-    fn most_in_part(self) -> usize {
-        if self == Way::Out { 255 } else { 248 }
-    }
-
     /// The value that the library writes in a large room, as its walk finds it there; or the refusal.
     fn value_made(self, value: &[u8]) -> Result<Vec<u8>, u8> {
-        let (mut room, mut join) = (vec![0; large_room(value)], vec![0; large_room(value)]);
+        let (mut room, mut join) = ([0; LARGE_ROOM], [0; MOST_VALUE]);
         match self.by_library(&mut room, 0, value) {
             Written { refused: 0, place } => {
                 let Step { parts, len, place, .. } = calls::step(&room[..place], 0, &mut join);
@@ -142,20 +134,15 @@ impl Bench {
         said
     }
 
-    /// A move into several rooms; and the other way what it writes, which comes back the same, or is too long to, or fits no room.
+    /// A move into several rooms; and the other way what it writes, which comes back the same or is too long to.
     pub fn move_value(&mut self, way: Way, value: &[u8]) {
-        let said = self.move_into(way, value, (large_room(value), 0));
+        let said = self.move_into(way, value, (LARGE_ROOM, 0));
         for room in rooms(said.place) {
             self.move_into(way, value, room);
         }
         if said.refused == 0 {
             let again = way.value_made(value).and_then(|made| way.other().value_made(&made));
-            let takes = value.len() + 2 * value.len().div_ceil(way.other().most_in_part());
-            let should = match value.len() {
-                len if len > MOST_VALUE => Err(&TOO_LONG),
-                _ if takes > MOST_BYTES => Err(&NO_ROOM),
-                _ => Ok(Bytes(value)),
-            };
+            let should = if value.len() > MOST_VALUE { Err(&TOO_LONG) } else { Ok(Bytes(value)) };
             self.same(format_args!("{way} and again of {}", Bytes(value)), &again.as_deref().map(Bytes), &should);
         }
     }

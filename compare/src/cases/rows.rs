@@ -10,8 +10,8 @@ use std::fmt::Arguments;
 /// The most rows that any call here is lent.
 pub(super) const MOST_ROWS: usize = MOST_BYTES / 2 + 2;
 
-/// The longest room, and a place in it behind which the longest value does not fit.
-const LARGE_ROOM: (usize, usize) = (MOST_BYTES, 3);
+/// A room that two of the longest values fit in, and a place in it.
+const LARGE_ROOM: (usize, usize) = (10_000, 3);
 
 /// Rows that no call answers, different at every place.
 pub(super) fn row_pattern(at: usize) -> Row {

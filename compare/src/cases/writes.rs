@@ -3,19 +3,16 @@
 use super::Bench;
 use crate::findings::Bytes;
 use crate::known;
-use crate::paper::{self, MOST_BYTES};
+use crate::paper;
 use crate::theirs;
 use crate::typed::Typed;
 use sindovaleph::calls::{self, Route, Written};
 use std::fmt::Arguments;
 
-/// Rooms and places for a write of so many bytes: exact ones, ones that lack a byte, larger ones, places at and past the end. One that
-/// would be longer has a byte more than a room may have; the last is the longest room where there is no larger one.
+/// Rooms and places for a write of so many bytes: exact ones, ones that lack a byte, larger ones, places at and past the end.
 pub(super) fn rooms(bytes: usize) -> [(usize, usize); 8] {
-    let (one_short, largest) = (bytes.saturating_sub(1), (bytes + 40, 17));
-    let last = if largest.0 > MOST_BYTES { (MOST_BYTES, 0) } else { largest };
-    [(bytes, 0), (one_short, 0), (bytes + 17, 17), (one_short + 17, 17), (5, 5), (5, 6), (0, 0), last]
-        .map(|(room, place)| (room.min(MOST_BYTES + 1), place))
+    let one_short = bytes.saturating_sub(1);
+    [(bytes, 0), (one_short, 0), (bytes + 17, 17), (one_short + 17, 17), (5, 5), (5, 6), (0, 0), (bytes + 40, 17)]
 }
 
 impl Bench {

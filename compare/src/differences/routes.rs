@@ -22,9 +22,9 @@ pub const ROWS: &[Row] = &[
         fault: "",
     },
     Row {
-        name: "a value of more than 65,024 bytes",
-        input: Input::Routes { destination: [10, 1, 2, 3], width: 32, count: 7_225 },
-        theirs: always("121 255 .. of 65535 bytes, walked: 121 with 65025 bytes"),
+        name: "a value of more than 4,080 bytes",
+        input: Input::Routes { destination: [10, 1, 2, 3], width: 32, count: 454 },
+        theirs: always("121 255 .. of 4120 bytes, walked: 121 with 4086 bytes"),
         ours: "refused 7",
         rfc: "3396, 6: any length",
         fault: "",

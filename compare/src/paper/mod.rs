@@ -32,7 +32,7 @@ pub const LEAST_MESSAGE: usize = 240;
 pub const MOST_BYTES: usize = 65_535;
 
 /// The most bytes of a value to be written.
-pub const MOST_VALUE: usize = 65_024;
+pub const MOST_VALUE: usize = 4_080;
 
 /// The code that has no length and fills.
 pub const PAD: u8 = 0;

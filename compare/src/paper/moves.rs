@@ -229,11 +229,11 @@ mod tests {
     }
 
     fn out(value: &[u8]) -> Result<Vec<u8>, u8> {
-        moved(move_out, value, MOST_BYTES, 0)
+        moved(move_out, value, 5_000, 0)
     }
 
     fn back(value: &[u8]) -> Result<Vec<u8>, u8> {
-        moved(move_back, value, MOST_BYTES, 0)
+        moved(move_back, value, 5_000, 0)
     }
 
     /// The routes of a value in words, by their places; or the refusal.
@@ -428,22 +428,21 @@ mod tests {
     #[test]
     fn the_limit_is_of_the_value_made() {
         let len = |moved: Result<Vec<u8>, u8>| moved.map(|bytes| bytes.len());
-        assert_eq!(len(out(&PAIRS[3].repeat(7_224))), Ok(65_526));
-        assert_eq!(len(out(&PAIRS[3].repeat(7_225))), Err(7));
-        assert_eq!(len(out(&PAIRS[0].repeat(8_191))), Ok(49_532));
-        assert_eq!(len(back(&ROUTES[0].repeat(8_126))), Ok(65_534));
-        assert_eq!(len(back(&ROUTES[0].repeat(8_127))), Err(8));
-        assert_eq!(len(back(&ROUTES[0].repeat(8_128))), Err(8));
-        assert_eq!(len(back(&ROUTES[0].repeat(8_129))), Err(7));
+        assert_eq!(len(out(&PAIRS[3].repeat(453))), Ok(4_109));
+        assert_eq!(len(out(&PAIRS[3].repeat(454))), Err(7));
+        assert_eq!(len(out(&PAIRS[0].repeat(680))), Ok(4_112));
+        assert_eq!(len(out(&PAIRS[0].repeat(681))), Err(7));
+        assert_eq!(len(back(&ROUTES[0].repeat(510))), Ok(4_114));
+        assert_eq!(len(back(&ROUTES[0].repeat(511))), Err(7));
     }
 
     #[test]
     fn rows_behind_the_limit_are_checked() {
-        assert_eq!(out(&[PAIRS[3].repeat(7_300), vec![0; 8]].concat()), Err(18));
+        assert_eq!(out(&[PAIRS[0].repeat(700), vec![0; 8]].concat()), Err(18));
         for (bad, refused) in [(&[33][..], 12), (&[8], 10), (&[0, 1, 2, 3, 4], 18), (&[1, 1, 1, 2, 3, 4], 18)] {
-            assert_eq!(back(&[ROUTES[0].repeat(9_000), bad.to_vec()].concat()), Err(refused));
+            assert_eq!(back(&[ROUTES[0].repeat(700), bad.to_vec()].concat()), Err(refused));
         }
-        assert_eq!(back(&[ROUTES[0].repeat(9_000), vec![32, 10, 0, 0, 0, 192, 0, 2, 1]].concat()), Err(19));
+        assert_eq!(back(&[ROUTES[0].repeat(700), vec![32, 10, 0, 0, 0, 192, 0, 2, 1]].concat()), Err(19));
     }
 
     #[test]
@@ -452,8 +451,8 @@ mod tests {
         assert_eq!(moved(move_out, &PAIRS[0], 7, 0), Err(8));
         assert_eq!(moved(move_back, ROUTES[0], 13, 3), Ok([&[33, 8][..], &PAIRS[0]].concat()));
         assert_eq!(moved(move_back, ROUTES[0], 12, 3), Err(8));
-        assert_eq!(moved(move_out, &PAIRS[3].repeat(7_225), 0, 0), Err(7));
-        assert_eq!(moved(move_back, &ROUTES[0].repeat(8_129), 0, 0), Err(7));
+        assert_eq!(moved(move_out, &PAIRS[3].repeat(454), 0, 0), Err(7));
+        assert_eq!(moved(move_back, &ROUTES[0].repeat(511), 0, 0), Err(7));
     }
 
     #[test]
@@ -475,8 +474,8 @@ mod tests {
             let routes = outward(&pairs).unwrap_or_default();
             assert_eq!(backward(&routes), Ok(pairs));
         }
-        let above = PAIRS[0].repeat(8_129);
-        assert_eq!(out(&above).map(|bytes| bytes.len()), Ok(49_158));
+        let above = PAIRS[0].repeat(511);
+        assert_eq!(out(&above).map(|bytes| bytes.len()), Ok(3_092));
         assert_eq!(back(&outward(&above).unwrap_or_default()), Err(7));
     }
 }

@@ -1,13 +1,12 @@
-//! How the cost grows: areas from small to the largest, full of one thing each; values, written and joined; RFC 3396's reading of the
-//! longest messages; and the longest profiles of routes.
+//! How the cost grows: areas from small to the largest, full of one thing each; RFC 3396's reading of the longest messages; and the longest
+//! profiles of routes.
 
 use super::aggregate;
 use super::case::{Case, Side, Sink, Unit};
 use super::inputs::{LENGTHS, Shape, USUAL, area_in_parts, usual_area};
 use super::moves;
 use super::walk::{by_crate, by_step};
-use super::writing;
-use crate::paper::{self, MOST_BYTES, MOST_VALUE};
+use crate::paper::MOST_BYTES;
 use dhcproto::v4::borrowed::DhcpOptionIterator;
 use sindovaleph::calls::{self, Row};
 use std::hint::black_box;
@@ -15,9 +14,6 @@ use std::hint::black_box;
 /// The two cases that all others are held against: the area of the twelve options.
 const BY_STEP: &str = "12 options, 85 bytes, by step";
 const BY_LIST: &str = "12 options, 85 bytes, by list";
-
-/// The case that joining the longest value is held against.
-const LONG_JOINED: &str = "4,080 bytes, joined";
 
 /// The most that a byte of the largest area may cost, against a byte of the twelve options; of empty options an option, against one of the
 /// twelve.
@@ -95,14 +91,6 @@ fn grown(shape: Shape, len: usize) -> [Case; 2] {
     if len == MOST_BYTES { cases.map(|case| case.aims_at(MOST_GROWTH).counts_at_most(MOST_GROWTH)) } else { cases }
 }
 
-/// A long value and the longest, walked with an End behind it.
-fn joined() -> [Case; 2] {
-    let area = |len: usize| [paper::typed_bytes(0, 43, &vec![9; len]), vec![255]].concat();
-    let joined = |name: &str, len: usize| by_steps(name, &area(len)).grown_from(LONG_JOINED, Unit::Byte);
-    let longest = joined("65,024 bytes, joined", MOST_VALUE);
-    [joined(LONG_JOINED, writing::LONG), longest.aims_at(writing::MOST_GROWTH).counts_at_most(writing::MOST_GROWTH)]
-}
-
 /// All of them.
 pub fn cases() -> Vec<Case> {
     let bases = [by_steps(BY_STEP, &usual_area()), by_list(BY_LIST, &usual_area())];
@@ -112,8 +100,6 @@ pub fn cases() -> Vec<Case> {
         let parts = if count == 1 { "part" } else { "parts" };
         by_steps(format!("{count} {parts} of 255, by step"), &area_in_parts(count))
     }));
-    cases.extend(writing::growth());
-    cases.extend(joined());
     cases.extend(aggregate::growth());
     cases.extend(moves::growth());
     cases

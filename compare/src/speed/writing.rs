@@ -1,25 +1,15 @@
-//! Writing: the twelve usual options, long values, and routes; and how writing a value grows with it.
+//! Writing: the twelve usual options, one long value, and routes.
 
-use super::case::{Case, Side, Sink, Unit};
+use super::case::{Case, Side, Sink};
 use super::inputs::USUAL;
-use crate::paper::{MOST_BYTES, MOST_VALUE};
 use crate::theirs;
 use dhcproto::v4::{DhcpOption, OptionCode, encode_long_opt_bytes};
 use dhcproto::{Encodable, Encoder};
 use sindovaleph::calls::{self, Route, WriteRow};
 use std::hint::black_box;
 
-/// The bytes of a room, and of the crate's vector, where that is enough.
+/// The bytes of a room, and of the crate's vector.
 const ROOM: usize = 5_000;
-
-/// The bytes of a long value.
-pub const LONG: usize = 4_080;
-
-/// The most that a byte of the longest value may cost, written or joined, against a byte of a long one.
-pub const MOST_GROWTH: f64 = 1.2;
-
-/// The case that writing the longest value is held against.
-const LONG_WRITTEN: &str = "4,080 bytes, written";
 
 /// The bytes of a page of memory.
 pub const PAGE: usize = 4_096;
@@ -144,8 +134,7 @@ fn apart_from(written: &[u8], options: &Options) -> Options {
 /// Options that a call each writes.
 fn call_each(name: &str, options: &Options) -> Case {
     let bytes = options.iter().map(|(_, value)| value.len() + 2).sum();
-    let len = if bytes < ROOM { ROOM } else { MOST_BYTES };
-    let (room, mut buffer) = (vec![0; len], vec![0; len]);
+    let (room, mut buffer) = (vec![0; ROOM], vec![0; ROOM]);
     let ours = CallEach { options: apart_from(&room, options), room };
     let options = apart_from(&buffer, options);
     buffer.clear();
@@ -165,16 +154,8 @@ pub fn cases() -> Vec<Case> {
     vec![
         call_each("write 12, a call each", &usual).aims_at(0.40),
         one_call("write 12, one call", &usual).aims_at(0.30),
-        call_each("write 4,080 bytes", &vec![(43, vec![9; LONG])]).aims_at(0.80),
-        call_each("write 65,024 bytes", &vec![(43, vec![9; MOST_VALUE])]).aims_at(0.80),
+        call_each("write 4,080 bytes", &vec![(43, vec![9; 4_080])]).aims_at(0.80),
     ]
-}
-
-/// How the cost of writing a value grows: a long one, and the longest.
-pub fn growth() -> [Case; 2] {
-    let written = |name: &str, len: usize| call_each(name, &vec![(43, vec![9; len])]).grown_from(LONG_WRITTEN, Unit::Byte);
-    let longest = written("65,024 bytes, written", MOST_VALUE).aims_at(MOST_GROWTH).counts_at_most(MOST_GROWTH);
-    [written(LONG_WRITTEN, LONG), longest]
 }
 
 /// Eight routes of different widths.

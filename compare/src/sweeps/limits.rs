@@ -1,9 +1,8 @@
-//! The limits of 65,535 bytes: messages, areas, rooms, values; that of values to be written, and what it takes to join them; and that of
-//! listings.
+//! The limits of 65,535 bytes: messages, areas, rooms, values; and that of listings.
 
 use super::made;
 use crate::cases::Bench;
-use crate::paper::{self, MOST_BYTES, MOST_VALUE};
+use crate::paper::MOST_BYTES;
 use crate::typed::Typed;
 use dhcproto::v4::borrowed::DhcpOptionIterator;
 use sindovaleph::calls::Route;
@@ -35,19 +34,6 @@ fn messages_and_areas(bench: &mut Bench) {
     }
     let ends = vec![12, 255, 255, 0, 12];
     bench.walk(&ends, DhcpOptionIterator::new(&ends));
-}
-
-/// Areas of one value around 4,080 bytes and around the limit, with an End, with another option and with nothing behind it, joined in
-/// buffers of 4,080 bytes, of the limit and of a byte more.
-fn joined_values(bench: &mut Bench) {
-    for len in (4_079..=4_081).chain(MOST_VALUE - 1..=MOST_VALUE + 2) {
-        let option = paper::typed_bytes(0, 43, &made::contents(len)[4]);
-        for behind in [&[][..], &[255], &[255, 43, 1, 7], &[12, 1, 65, 255]] {
-            let area = [&option, behind].concat();
-            bench.call_at(&area, 0, &[4_080, MOST_VALUE, MOST_VALUE + 1]);
-            bench.walk(&area, DhcpOptionIterator::new(&area));
-        }
-    }
 }
 
 /// Areas listed in rows: with one long option, with as many options as can be, and with none.
@@ -111,10 +97,10 @@ fn rooms(bench: &mut Bench) {
             bench.close((room, place));
             for code in [0, 1, 12, 21, 255] {
                 bench.write_bytes_into(code, &[1, 2, 3, 4], (room, place));
-                bench.write_bytes_into(code, &[0; MOST_VALUE + 1], (room, place));
+                bench.write_bytes_into(code, &[0; 4_081], (room, place));
                 bench.write_typed_into(code, &Typed::Address(5), (room, place));
-                bench.write_typed_into(code, &Typed::Text(&[255; MOST_VALUE + 1]), (room, place));
-                bench.write_typed_into(code, &Typed::Pairs(&[9; MOST_VALUE / 4 + 1]), (room, place));
+                bench.write_typed_into(code, &Typed::Text(&[255; 4_081]), (room, place));
+                bench.write_typed_into(code, &Typed::Pairs(&[9; 1_021]), (room, place));
             }
             bench.write_routes_into(&[narrow], (room, place));
             bench.write_routes_into(&[narrow, wide], (room, place));
@@ -125,7 +111,6 @@ fn rooms(bench: &mut Bench) {
 /// All of them.
 pub fn sweep(bench: &mut Bench) {
     messages_and_areas(bench);
-    joined_values(bench);
     rows(bench);
     listings(bench);
     values(bench);

@@ -142,14 +142,14 @@ fn cuts(bench: &mut Bench) {
 fn lengths(bench: &mut Bench) {
     for (route, pair) in GOOD.iter().zip(PAIRS) {
         let around = |bytes: usize, len: usize| (len / bytes).saturating_sub(1)..=len / bytes + 2;
-        for len in [255, 510, 765, 4_080, MOST_VALUE] {
+        for len in [255, 510, 765, MOST_VALUE] {
             for count in around(route.len(), len) {
                 for behind in [&[], PAIRS[3], PAIRS[4]] {
                     bench.move_value(Way::Out, &[&pair.repeat(count), behind].concat());
                 }
             }
         }
-        for len in [248, 496, 744, 4_080, MOST_VALUE] {
+        for len in [248, 496, 744, MOST_VALUE] {
             for count in around(pair.len(), len) {
                 for behind in [&[], GOOD[3]].iter().chain(&BAD) {
                     routes(bench, &[&route.repeat(count), *behind].concat());
@@ -171,8 +171,8 @@ fn limits(bench: &mut Bench) {
             either(bench, &row.repeat(len / row.len() + 1)[..len]);
         }
     }
-    let (good, long) = (GOOD[0], GOOD[0].repeat(MOST_VALUE / 8 + 1));
-    let (pair, long_pairs) = (PAIRS[0], PAIRS[3].repeat(MOST_VALUE / 9 + 1));
+    let (good, long) = (GOOD[0], GOOD[0].repeat(511));
+    let (pair, long_pairs) = (PAIRS[0], PAIRS[0].repeat(681));
     for room in [MOST_BYTES - 1, MOST_BYTES, MOST_BYTES + 1] {
         for place in [0, room - 10, room - 9, room - 8, room - 7, room - 1, room, room + 1, usize::MAX] {
             for value in [good, pair, &[], &[0], &[33], BAD[3], PAIRS[4], &long, &long_pairs] {
@@ -207,10 +207,9 @@ pub fn sweep(bench: &mut Bench) {
     rooms(bench);
 }
 
-/// How many rows: mostly a few, now and then some hundred, and seldom around the most.
+/// How many rows: mostly a few, now and then around the most.
 fn count(random: &mut Random) -> usize {
     match random.below(30) {
-        0 if random.once_in(40) => 7_000 + random.below(1_300),
         0 => 440 + random.below(260),
         1..=3 => random.below(80),
         _ => random.below(8),
@@ -295,9 +294,9 @@ mod tests {
 
     #[test]
     fn random_lists_meet_every_refusal_of_their_rows_and_none() {
-        let (mut random, mut room) = (Random::new(1), [0; MOST_BYTES]);
+        let (mut random, mut room) = (Random::new(1), [0; 5_000]);
         let (mut back, mut out) = (BTreeSet::new(), BTreeSet::new());
-        for _ in 0..8_000 {
+        for _ in 0..2_000 {
             let (rows, pairs) = drawn(&mut random);
             back.insert(paper::move_back(&mut room, 0, &rows).refused);
             out.insert(paper::move_out(&mut room, 0, &pairs).refused);

@@ -2,7 +2,6 @@
 
 use super::made;
 use crate::cases::Bench;
-use crate::paper::MOST_VALUE;
 use sindovaleph::calls::Route;
 
 /// So many routes of the same width.
@@ -23,11 +22,11 @@ fn widths(bench: &mut Bench) {
     }
 }
 
-/// Tables around each cut of a part, around 4,080 bytes and around the limit.
+/// Tables around each cut of a part and around 4,080 bytes.
 fn lengths(bench: &mut Bench) {
     for width in [0, 1, 8, 9, 16, 17, 24, 25, 32] {
         let bytes = 5 + usize::from(width).div_ceil(8);
-        for len in [255, 510, 765, 1_020, 4_080, MOST_VALUE] {
+        for len in [255, 510, 765, 1_020, 4_080] {
             for count in (len / bytes).saturating_sub(2)..=len / bytes + 3 {
                 bench.write_routes(&table(count, width));
             }
@@ -37,8 +36,8 @@ fn lengths(bench: &mut Bench) {
 
 /// A route that is too wide in a table that is too long: which refusal comes first.
 fn order(bench: &mut Bench) {
-    for wide in [0, 3_650, 7_299] {
-        let mut long = table(7_300, 32);
+    for wide in [0, 500, 999] {
+        let mut long = table(1_000, 32);
         long[wide].width = 33;
         bench.write_routes(&long);
     }

@@ -2,17 +2,17 @@
 
 use super::made;
 use crate::cases::Bench;
-use crate::paper::{MOST_BYTES, MOST_VALUE};
+use crate::paper::MOST_BYTES;
 use sindovaleph::calls::WriteRow;
 
 /// How many bytes the values have that all rows lie in.
-const VALUES: usize = 66_000;
+const VALUES: usize = 5_000;
 
 /// Codes that are written, and numbers that are no such code.
 const CODES: [usize; 7] = [1, 12, 254, 0, 255, 256 + 12, usize::MAX];
 
 /// Where a value begins and how long it is: around each cut, around the most that is written, and outside of the values.
-const SPANS: [(usize, usize); 21] = [
+const SPANS: [(usize, usize); 19] = [
     (0, 0),
     (9, 1),
     (3, 4),
@@ -21,10 +21,8 @@ const SPANS: [(usize, usize); 21] = [
     (0, 510),
     (7, 511),
     (0, 4_080),
-    (1, 4_081),
-    (0, MOST_VALUE),
-    (VALUES - MOST_VALUE, MOST_VALUE),
-    (0, MOST_VALUE + 1),
+    (VALUES - 4_080, 4_080),
+    (0, 4_081),
     (VALUES - 1, 1),
     (VALUES, 0),
     (VALUES, 1),
@@ -45,9 +43,9 @@ const SMALL: [WriteRow; 10] = [
     WriteRow { code: 0, start: 1, len: 2 },
     WriteRow { code: 255, start: 1, len: 0 },
     WriteRow { code: 256 + 12, start: 1, len: 1 },
-    WriteRow { code: 12, start: 0, len: MOST_VALUE + 1 },
+    WriteRow { code: 12, start: 0, len: 4_081 },
     WriteRow { code: 0, start: VALUES + 1, len: 0 },
-    WriteRow { code: 255, start: 0, len: MOST_VALUE + 1 },
+    WriteRow { code: 255, start: 0, len: 4_081 },
 ];
 
 /// Every code with every span.
@@ -91,7 +89,7 @@ fn longer(bench: &mut Bench, values: &[u8]) {
         bench.write_list(&rows, values);
         for wrong in 0..count {
             let WriteRow { code, start, len } = row(wrong);
-            for (code, start, len) in [(code, VALUES, len + 1), (0, start, len), (code, 0, MOST_VALUE + 1)] {
+            for (code, start, len) in [(code, VALUES, len + 1), (0, start, len), (code, start, 4_081)] {
                 let mut rows = rows.clone();
                 rows[wrong] = WriteRow { code, start, len };
                 bench.write_list(&rows, values);

@@ -9,20 +9,13 @@ use crate::typed::Typed;
 const NUMBERS: [u32; 9] = [0, 1, 255, 256, 65_535, 65_536, 0x7FFF_FFFF, 0x8000_0000, 0xFFFF_FFFF];
 
 /// The lengths of lists that a writer of the code's own kind gets, as numbers of four, of two and of one byte.
-/// Around each cut, around 4,080 bytes and the limit, and the longest lists that fit a room.
-const LENGTHS_OF_FOUR: [usize; 28] = [
-    0, 1, 2, 3, 4, 60, 61, 62, 63, 64, 65, 125, 126, 127, 128, 189, 190, 1_019, 1_020, 1_021, 16_252, 16_253, 16_254, 16_255, 16_256,
-    16_257, 16_258, 20_000,
-];
-const LENGTHS_OF_TWO: [usize; 17] =
-    [0, 1, 2, 126, 127, 128, 253, 254, 255, 256, 2_039, 2_040, 2_041, 32_511, 32_512, 32_513, 40_000];
-const LENGTHS_OF_ONE: [usize; 17] =
-    [0, 1, 2, 254, 255, 256, 509, 510, 511, 512, 4_079, 4_080, 4_081, 65_023, 65_024, 65_025, 65_026];
+const LENGTHS_OF_FOUR: [usize; 20] =
+    [0, 1, 2, 3, 4, 60, 61, 62, 63, 64, 65, 125, 126, 127, 128, 189, 190, 1_019, 1_020, 1_021];
+const LENGTHS_OF_TWO: [usize; 13] = [0, 1, 2, 126, 127, 128, 253, 254, 255, 256, 2_039, 2_040, 2_041];
+const LENGTHS_OF_ONE: [usize; 13] = [0, 1, 2, 254, 255, 256, 509, 510, 511, 512, 4_079, 4_080, 4_081];
 
-/// Where the code is of another kind, few lengths are enough: none, one, and one that is too long.
-const FEW_OF_FOUR: [usize; 3] = [0, 1, 16_257];
-const FEW_OF_TWO: [usize; 3] = [0, 1, 32_513];
-const FEW_OF_ONE: [usize; 3] = [0, 1, 65_025];
+/// Where the code is of another kind, a few lengths are enough.
+const FEW: [usize; 3] = [0, 1, 1_500];
 
 fn scalars(bench: &mut Bench, code: u8) {
     for byte in 0..=255 {
@@ -43,28 +36,28 @@ fn scalars(bench: &mut Bench, code: u8) {
 }
 
 fn lists(bench: &mut Bench, code: u8) {
-    let lengths = |kind: u8, all: &'static [usize], few: &'static [usize]| if kind_of(code) == kind { all } else { few };
-    for &count in lengths(2, &LENGTHS_OF_FOUR, &FEW_OF_FOUR) {
+    let lengths = |kind: u8, all: &'static [usize]| if kind_of(code) == kind { all } else { &FEW };
+    for &count in lengths(2, &LENGTHS_OF_FOUR) {
         bench.write_typed(code, &Typed::Addresses(&made::numbers(count)));
     }
-    for &count in lengths(3, &LENGTHS_OF_FOUR, &FEW_OF_FOUR) {
+    for &count in lengths(3, &LENGTHS_OF_FOUR) {
         bench.write_typed(code, &Typed::Pairs(&made::numbers(count)));
     }
-    for &count in lengths(7, &LENGTHS_OF_TWO, &FEW_OF_TWO) {
+    for &count in lengths(7, &LENGTHS_OF_TWO) {
         let numbers: Vec<u16> = made::numbers(count).iter().map(|&number| (number >> 9) as u16).collect();
         bench.write_typed(code, &Typed::U16s(&numbers));
     }
-    for &count in lengths(11, &LENGTHS_OF_ONE, &FEW_OF_ONE) {
+    for &count in lengths(11, &LENGTHS_OF_ONE) {
         bench.write_typed(code, &Typed::Codes(&made::contents(count)[4]));
     }
-    for &count in lengths(10, &LENGTHS_OF_ONE, &FEW_OF_ONE) {
+    for &count in lengths(10, &LENGTHS_OF_ONE) {
         bench.write_typed(code, &Typed::Text(&made::contents(count)[5]));
         bench.write_typed(code, &Typed::Text(&made::contents(count)[3]));
     }
 }
 
 fn byte_values(bench: &mut Bench, code: u8) {
-    for len in made::lengths().chain([509, 510, 511]).chain(4_079..=4_081).chain(65_023..=65_026) {
+    for len in made::lengths().chain([509, 510, 511, 4_079, 4_080, 4_081]) {
         bench.write_bytes(code, &made::contents(len)[4]);
     }
 }

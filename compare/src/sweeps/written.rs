@@ -1,16 +1,15 @@
 //! Random writes.
 
 use crate::cases::Bench;
-use crate::paper::{MOST_VALUE, kind_of};
+use crate::paper::kind_of;
 use crate::random::Random;
 use crate::typed::Typed;
 use sindovaleph::calls::{Route, WriteRow};
 
-/// A length of a list: mostly short, now and then up to a sixteenth of the most, and seldom up to the most and some more.
+/// A length of a list: mostly short, now and then around the most bytes of a value.
 fn length(random: &mut Random, most: usize) -> usize {
     match random.below(20) {
-        0 if random.once_in(10) => random.below(most + most / 40 + 2),
-        0 => random.below(most / 16),
+        0 => random.below(most + most / 40 + 2),
         1..=4 => random.below(300),
         _ => random.below(12),
     }
@@ -22,7 +21,7 @@ fn bytes(random: &mut Random, len: usize) -> Vec<u8> {
 
 /// Letters, and now and then any byte.
 fn text(random: &mut Random) -> Vec<u8> {
-    let len = length(random, MOST_VALUE);
+    let len = length(random, 4_080);
     let mut text: Vec<u8> = (0..len).map(|_| b'a' + random.below(26) as u8).collect();
     if random.once_in(3) && len > 0 {
         text[random.below(len)] = random.byte();
@@ -31,7 +30,7 @@ fn text(random: &mut Random) -> Vec<u8> {
 }
 
 fn list(random: &mut Random, bench: &mut Bench, code: u8, kind: u8) {
-    let most = if kind == 7 { MOST_VALUE / 2 } else { MOST_VALUE / 4 };
+    let most = if kind == 7 { 2_040 } else { 1_020 };
     let numbers: Vec<u32> = (0..length(random, most)).map(|_| random.bits() as u32).collect();
     match kind {
         2 => bench.write_typed(code, &Typed::Addresses(&numbers)),
@@ -49,13 +48,13 @@ fn routes(random: &mut Random, bench: &mut Bench) {
         let (destination, gateway) = (random.bits() as u32, random.bits() as u32);
         Route { width: random.below(widest) as u8, destination, gateway }
     };
-    let table: Vec<Route> = (0..length(random, MOST_VALUE / 8)).map(|_| route(random)).collect();
+    let table: Vec<Route> = (0..length(random, 500)).map(|_| route(random)).collect();
     bench.write_routes(&table);
 }
 
 /// Rows of options, most of them right: a wrong one stands at any index.
 pub fn rows(random: &mut Random, bench: &mut Bench) {
-    let most = length(random, MOST_VALUE) + 40;
+    let most = length(random, 4_080) + 40;
     let values = bytes(random, most);
     let row = |random: &mut Random| {
         let start = random.below(values.len());
@@ -79,13 +78,13 @@ pub fn one(random: &mut Random, bench: &mut Bench) {
     let typed = match kind {
         0 if random.once_in(8) => return routes(random, bench),
         0 => {
-            let len = length(random, MOST_VALUE);
+            let len = length(random, 4_080);
             return bench.write_bytes(code, &bytes(random, len));
         }
         2 | 3 | 7 => return list(random, bench, code, kind),
         10 => return bench.write_typed(code, &Typed::Text(&text(random))),
         11 => {
-            let len = length(random, MOST_VALUE);
+            let len = length(random, 4_080);
             return bench.write_typed(code, &Typed::Codes(&bytes(random, len)));
         }
         1 => Typed::Address(number),

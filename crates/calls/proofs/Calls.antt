@@ -6,12 +6,12 @@ use native.Mathlib.Omega.{arith}
 use mathlib.Core.List.{List, [], ◌∷◌, ◌++◌, append-nil}
 use lib.ListN.{length, drop, length-append, length-drop}
 use Rattle.facts.proofs.Over.{from_over}
-use Rattle.rfc.specs.Numbers.{Answer, given, refused, needs, most_bytes}
+use Rattle.rfc.specs.Numbers.{Answer, given, refused, needs, most_bytes, most_value}
 use Rattle.rfc.specs.Walk as walk
 use Rattle.rfc.specs.Walk.{step, join_after}
 use Rattle.rfc.specs.Writing.{close}
-use Rattle.rfc.specs.Lists.{Opt, Valid, Within, encode_all, Made, finished, write_all}
-use Rattle.rfc.proofs.Lists.{all_goes_on, all_ends_at, all_closes, all_not_closed, writes_all, at-end, First, at_option, all_within}
+use Rattle.rfc.specs.Lists.{Opt, Valid, encode_all, Made, finished, write_all}
+use Rattle.rfc.proofs.Lists.{all_goes_on, all_ends_at, all_closes, all_not_closed, writes_all, at-end, First, at_option}
 use Rattle.rfc.proofs.Walk.{length_joined}
 use Rattle.encoder.specs.Written.{Wrote}
 use Rattle.encoder.specs.declared.Written.{Written}
@@ -21,7 +21,7 @@ use Rattle.borrowed.specs.declared.answer.Step.TheVariants.{Stopped, Found, Refu
 use Rattle.borrowed.specs.declared.answer.Stop.{Stop}
 use Rattle.borrowed.specs.declared.answer.Stop.TheVariants.{Out, End, CutLength, CutValue, CutContinuation}
 use Rattle.calls.proofs.Made.{made_same}
-use Rattle.calls.specs.Calls.{WritesAll, closes, goes_on, ends, StepsTo, none, one, found_by, ListsBack, CallsEnoughToJoin, CallsRoundTrip}
+use Rattle.calls.specs.Calls.{WritesAll, closes, goes_on, ends, StepsTo, none, one, found_by, ListsBack, CallsRoundTrip}
 
 -- what the last call of a run of writes says of the run
 abbrev made : Written → List ℕ → Answer Made
@@ -68,43 +68,44 @@ module _ (area rest : List ℕ) (short : length area ≤ most_bytes) where
     pub within : at ≤ length area
     pub here : drop at area ≡ encode_all left ++ rest
     pub ends_there : at + length (encode_all left) ≡ end
-    pub joins : Within (length join) left
+    pub joins : most_value ≤ length join
 
   -- a call that finds an option there finds the list's first
-  module _ {place : ℕ} {join join₁ : List ℕ} (o : Opt) (os : List Opt) (within : place ≤ length area) (joins : Within (length join) (o ∷ os))
-      {code parts len to : ℕ} (v : Valid (o ∷ os)) (here : drop place area ≡ encode_all (o ∷ os) ++ rest)
-      (s : Stepped area place join join₁ (Found code parts len to)) where
-    first : First area rest (length join) short o os place
-    first = at_option area rest (length join) short o os place v joins.0 within here
+  module _ {place : ℕ} {join join₁ : List ℕ} (within : place ≤ length area) (joins : most_value ≤ length join) where
+    module _ (o : Opt) (os : List Opt) {code parts len to : ℕ} (v : Valid (o ∷ os)) (here : drop place area ≡ encode_all (o ∷ os) ++ rest)
+        (s : Stepped area place join join₁ (Found code parts len to)) where
+      first : First area rest (length join) short joins o os place
+      first = at_option area rest (length join) short joins o os place v within here
 
-    the_option : found_by code parts len to area join₁ ≡ o
-    the_option = let e = s.told ∙ first.finds in λ i. record { code = same_code e i; value = same_value e i }
+      the_option : found_by code parts len to area join₁ ≡ o
+      the_option = let e = s.told ∙ first.finds in λ i. record { code = same_code e i; value = same_value e i }
 
-    the_place : to ≡ first.to
-    the_place = let e = s.told ∙ first.finds in cc
+      the_place : to ≡ first.to
+      the_place = let e = s.told ∙ first.finds in cc
 
-    -- with as much to join in as before, there is room for the values of the rest
-    joins_on : Within (length join₁) os
-    joins_on =
-        let same : length join₁ ≡ length join =
-        ap length (s.kept ∙ ap (λ (a : Answer walk.Found). join_after a join) first.finds)
-        ∙ length_joined join o.code o.value first.parts first.to joins.0 in
-        subst (λ (n : ℕ). Within n os) (sym same) joins.1
+      joins_on : most_value ≤ length join₁
+      joins_on =
+          omega (
+            arith,
+            ap length (s.kept ∙ ap (λ (a : Answer walk.Found). join_after a join) first.finds),
+            length_joined join o.code o.value first.parts first.to (omega (arith, v.0.most, joins)),
+            joins,
+          )
 
   steps_left : (os : List Opt) {sofar : List Opt} {place at : ℕ} {join join' : List ℕ} → StepsTo area place join sofar at join'
-      → Valid os → place ≤ length area → drop place area ≡ encode_all os ++ rest → Within (length join) os
+      → Valid os → place ≤ length area → drop place area ≡ encode_all os ++ rest → most_value ≤ length join
       → Left os sofar (place + length (encode_all os)) at join'
   steps_left os none v within here joins =
       record { left = os; split = refl; valid = v; within = within; here = here; ends_there = refl; joins = joins }
-  steps_left [] (one s more) v within here joins = option_stop (s.told ∙ at-end area rest _ short _ within here)
+  steps_left [] (one s more) v within here joins = option_stop (s.told ∙ at-end area rest _ short joins _ within here)
   steps_left (o ∷ os) (one s more) v within here joins =
-      let f = first o os within joins v here s in
-      let to = the_place o os within joins v here s in
+      let f = first within joins o os v here s in
+      let to = the_place within joins o os v here s in
       let l =
-      steps_left os more v.2 (omega (arith, f.within, to)) (ap (λ (k : ℕ). drop k area) to ∙ f.more) (joins_on o os within joins v here s) in
+      steps_left os more v.2 (omega (arith, f.within, to)) (ap (λ (k : ℕ). drop k area) to ∙ f.more) (joins_on within joins o os v here s) in
       record {
         left = l.left;
-        split = λ i. sym (the_option o os within joins v here s) i ∷ l.split i;
+        split = λ i. sym (the_option within joins o os v here s) i ∷ l.split i;
         valid = l.valid;
         within = l.within;
         here = l.here;
@@ -122,7 +123,7 @@ is_end CutContinuation e = cc
 
 -- the area that begins with the list's bytes is listed back
 module _ (options : List Opt) (rest area join : List ℕ) (valid : Valid options) (short : length area ≤ most_bytes)
-    (joins : Within (length join) options) (begins : area ≡ encode_all options ++ rest) where
+    (joins : most_value ≤ length join) (begins : area ≡ encode_all options ++ rest) where
   module _ {sofar : List Opt} {at : ℕ} {join₁ : List ℕ} (steps : StepsTo area 0 join sofar at join₁) where
     state : Left area rest short options sofar (0 + length (encode_all options)) at join₁
     state = steps_left area rest short options steps valid (omega arith) begins joins
@@ -142,12 +143,11 @@ module _ (options : List Opt) (rest area join : List ℕ) (valid : Valid options
             let place : at + length (encode_all []) ≡ length (encode_all options) =
             ap (λ (l : List Opt). at + length (encode_all l)) (sym e) ∙ state.ends_there ∙ (omega arith) in
             ended (sym (state.split ∙ ap (λ (l : List Opt). sofar ++ l) e ∙ append-nil sofar))
-            (at-end area rest (length join₁) short at state.within here
+            (at-end area rest (length join₁) short state.joins at state.within here
             ∙ ap (λ (k : ℕ). given (walk.stop walk.end k)) place)
         go (o ∷ os) e =
             let here = state.here ∙ ap (λ (l : List Opt). encode_all l ++ rest) e in
-            let fits = subst (λ (l : List Opt). Within (length join₁) l) e state.joins in
-            let f = at_option area rest (length join₁) short o os at (subst Valid e state.valid) fits.0 state.within here in
+            let f = at_option area rest (length join₁) short state.joins o os at (subst Valid e state.valid) state.within here in
             goes o os (state.split ∙ ap (λ (l : List Opt). sofar ++ l) e) f.parts f.to f.finds
 
     module _ {join₂ : List ℕ} where
@@ -193,21 +193,17 @@ module _ (options : List Opt) (rest area join : List ℕ) (valid : Valid options
         needs = λ steps s. never_needs steps s;
       }
 
-pub calls_enough_to_join : CallsEnoughToJoin
-calls_enough_to_join options behind join v fits all = lists_back options behind (encode_all options ++ behind) join v all fits refl
-
 pub calls_round_trip : CallsRoundTrip
 calls_round_trip options room room' behind join place r v short fits all joins calls =
     let bytes : List ℕ = encode_all options in
     let rest : List ℕ = drop (place + length bytes) room in
     let is = made_is r room' _ _ (sym (does_all calls) ∙ writes_all options room place v short fits) in
     let there : drop place room' ≡ bytes ++ rest = ap (drop place) is.1 ∙ from_over room place bytes fits in
-    let each = all_within options (length join) v joins in
     record {
       told = is.0;
       left = is.1;
-      walked = calls_enough_to_join options behind join v each all;
+      walked = lists_back options behind (bytes ++ behind) join v all joins refl;
       in_the_room =
           lists_back options rest (drop place room') join v
-          (omega (arith, ap length there, length-append bytes rest, length-drop (place + length bytes) room)) each there;
+          (omega (arith, ap length there, length-append bytes rest, length-drop (place + length bytes) room)) joins there;
     }

@@ -8,7 +8,7 @@ use Rattle.facts.specs.Over.{over}
 use Rattle.rfc.specs.Numbers.{given, most_bytes, most_value}
 use Rattle.rfc.specs.Walk as walk
 use Rattle.rfc.specs.Writing.{write_bytes, close}
-use Rattle.rfc.specs.Lists.{Opt, Valid, Within, encode_all, listing}
+use Rattle.rfc.specs.Lists.{Opt, Valid, encode_all, listing}
 use Rattle.encoder.specs.Written.{Wrote}
 use Rattle.encoder.specs.declared.Written.{Written}
 use Rattle.encoder.specs.declared.Written.TheVariants as written
@@ -69,16 +69,6 @@ pub record ListsBack (options : List Opt) (end : ℕ) (area join : List ℕ) : T
       → StepsTo area 0 join sofar at join₁
       → Stepped area at join₁ join₂ (Needs n)
       → ⊥
-
--- Ticket 7, "A site still lending 4,080 join bytes gets the same answers for old areas": as much to join in as the longest value has is
--- enough
-abbrev pub CallsEnoughToJoin : Type 0
-CallsEnoughToJoin =
-    (options : List Opt) (behind join : List ℕ)
-    → Valid options
-    → Within (length join) options
-    → length (encode_all options ++ behind) ≤ most_bytes
-    → ListsBack options (length (encode_all options)) (encode_all options ++ behind) join
 
 -- "Take any list of options ..": whatever the writing calls answered and left, and then the walking ones
 pub record BackByCalls (options : List Opt) (room room' behind join : List ℕ) (place : ℕ) (r : Written) : Type 0 where

@@ -14,7 +14,6 @@ const TEN: u32 = 167772160;
 
 fn main() {
     tell_sizes();
-    tell_most();
     tell_numbers();
     tell_others();
     tell_lists();
@@ -22,34 +21,23 @@ fn main() {
     tell_empty();
 }
 
-// Byte values around one part, and addresses as addresses and as a byte value.
+// Byte values around one part and around the most bytes, and addresses as addresses and as a byte value.
 fn tell_sizes() {
-    let value = [7u8; 508];
+    let value = [7u8; 4081];
     let addresses = [TEN; 127];
-    let mut room = [0u8; 520];
+    let mut room = [0u8; 4200];
     let one = options::write_bytes(&mut room, 0, 43, &value[0..255]);
     say_size(b"value of 255 bytes", &room, one);
     let two = options::write_bytes(&mut room, 0, 43, &value[0..256]);
     say_size(b"value of 256 bytes", &room, two);
+    let most = options::write_bytes(&mut room, 0, 43, &value[0..4080]);
+    say_size(b"value of 4080 bytes", &room, most);
+    let more = options::write_bytes(&mut room, 0, 43, &value);
+    say_size(b"value of 4081 bytes", &room, more);
     let list = lists::write_addresses(&mut room, 0, 6, &addresses);
     say_size(b"127 addresses", &room, list);
-    let bytes = options::write_bytes(&mut room, 0, 6, &value);
+    let bytes = options::write_bytes(&mut room, 0, 6, &value[0..508]);
     say_size(b"508 bytes", &room, bytes);
-}
-
-// Byte values around the most bytes, and the longest one walked by who lends 4,080 bytes to join in.
-fn tell_most() {
-    let value = [7u8; 65025];
-    let mut room = [0u8; 65535];
-    tell_longest(&mut room, &value);
-}
-
-fn tell_longest(room: &mut [u8], value: &[u8]) {
-    let most = options::write_bytes(room, 0, 43, borrowed::part(value, 0, 65024));
-    say_size(b"value of 65024 bytes", room, most);
-    say_joins(room);
-    let more = options::write_bytes(room, 0, 43, value);
-    say_size(b"value of 65025 bytes", room, more);
 }
 
 fn tell_numbers() {
@@ -144,19 +132,9 @@ fn say_size(name: &[u8], room: &[u8], written: Written) {
     io::write_all(1, b"\n");
 }
 
-// What the first option of an area needs to be joined, where 4,080 bytes are lent.
-fn say_joins(area: &[u8]) {
-    let mut join = [0u8; 4080];
-    if let Step::Needs(needed) = borrowed::step(area, 0, &mut join) {
-        io::write_all(1, b"joined in 4080 bytes: needs ");
-        io::print_decimal(1, needed as u64);
-        io::write_all(1, b"\n");
-    }
-}
-
 // The parts of the first option of an area.
 fn say_parts(area: &[u8]) {
-    let mut join = [0u8; 65024];
+    let mut join = io::buffer();
     if let Step::Found { parts, .. } = borrowed::step(area, 0, &mut join) {
         io::write_all(1, b": parts ");
         io::print_decimal(1, parts as u64);

@@ -8,7 +8,7 @@ pub const LEAST_MESSAGE: usize = 240;
 pub const MOST_BYTES: usize = 65535;
 
 // The most bytes of a value to be written.
-pub const MOST_VALUE: usize = 65024;
+pub const MOST_VALUE: usize = 4080;
 
 // The most bytes of one part of a value.
 pub const MOST_PART: usize = 255;

@@ -12,4 +12,3 @@ pub mod Aggregate
 pub mod Overloaded
 pub mod Stream
 pub mod Moves
-pub mod Stored

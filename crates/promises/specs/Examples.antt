@@ -27,7 +27,7 @@ pub data Outcome : Type 0 where
   reading : Answer Value → Outcome
   room : Answer ℕ → List ℕ → Outcome
 
--- what the definitions make of it: the walk has 65,024 bytes to join in; the routes are written into a room of zeros, as long as the
+-- what the definitions make of it: the walk has 4,080 bytes to join in; the routes are written into a room of zeros, as long as the
 -- bytes are
 unfoldable pub does : Case → Outcome
 does (walks area calls) = answers (map (λ (c : Call). step area c.place most_value) calls)

@@ -12,8 +12,8 @@ use Rattle.rfc.specs.Lists.{Opt, Valid, Bytes, encode_all, finished, write_all, 
 abbrev pub listed : List Opt → ℕ → Listing
 listed options at = record { options = options; ending = given (stop end at) }
 
--- "Take any list of options: codes 1 to 254, values of 1 to 65,024 bytes, no two neighbours with one code. Write it as byte values, close it
--- with End, all within 65,535 bytes and the lent room. Put any bytes behind it, up to 65,535 in all. With 65,024 bytes to join in, the walk
+-- "Take any list of options: codes 1 to 254, values of 1 to 4,080 bytes, no two neighbours with one code. Write it as byte values, close it
+-- with End, all within 65,535 bytes and the lent room. Put any bytes behind it, up to 65,535 in all. With 4,080 bytes to join in, the walk
 -- lists exactly those options and stops at that End."
 pub record ThereAndBack (options : List Opt) (room behind : List ℕ) (place join : ℕ) : Type 0 where
   -- the writers put the list's bytes at the place, and nothing else changes

@@ -77,7 +77,7 @@ OfNumbers =
     × (past_end 2 (12 ∷ 0 ∷ []) ≡ false)
     × (no_element 2 2 ≡ true)
     × (no_code 255 ≡ true)
-    × (too_much (replicate 65025 7) ≡ true)
+    × (too_much (replicate 4081 7) ≡ true)
     × (length (encode most_part 12 (replicate 256 7)) ≡ 260)
     × (no_room (0 ∷ 0 ∷ []) 1 (12 ∷ 0 ∷ []) ≡ true)
     × (checked (check false 2 ∷ check true 4 ∷ check true 6 ∷ []) (given true) ≡ refused 4)

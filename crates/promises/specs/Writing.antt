@@ -25,7 +25,7 @@ MostInAPart = (part_size 2 ≡ 252) × (part_size 3 ≡ 248) × (part_size 7 ≡
 abbrev pub left : ℕ → Value → List ℕ → ℕ → List ℕ
 left code value room place = room_after (write_value code value room place) room place
 
--- where something was written, and no byte or one of another code stands behind it, the walk from the old place with 65,024 bytes to join in
+-- where something was written, and no byte or one of another code stands behind it, the walk from the old place with 4,080 bytes to join in
 -- finds the value, and the new place
 abbrev pub TypedReadsBack : Type 0
 TypedReadsBack =

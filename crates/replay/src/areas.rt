@@ -5,24 +5,25 @@ use borrowed::answer::Step;
 use limits::MOST_BYTES;
 
 // Whether the walk over an area is as recorded.
-pub(crate) fn right(area: &[u8], answer: &[u8], page: &mut [u8]) -> bool {
-    let mut join = [0u8; 65535];
-    let end = walk(area, page, &mut join);
-    pages::reads(page, end, answer)
+pub(crate) fn right(area: &[u8], answer: &[u8]) -> bool {
+    let mut page = [0u8; 8192];
+    let end = walk(area, &mut page);
+    pages::reads(&page, end, answer)
 }
 
 // Puts what each call says on the page. Answers the place behind it.
-fn walk(area: &[u8], page: &mut [u8], join: &mut [u8]) -> usize {
+fn walk(area: &[u8], page: &mut [u8]) -> usize {
     if area.len() > MOST_BYTES {
         return pages::NOWHERE;
     }
+    let mut join = io::buffer();
     let mut place: usize = 0;
     let mut at: usize = 0;
     let mut left: usize = area.len() + 1;
     while left > 0 {
         left -= 1;
-        let step = borrowed::step(area, place, join);
-        at = put_step(page, at, step, area, join);
+        let step = borrowed::step(area, place, &mut join);
+        at = put_step(page, at, step, area, &join);
         place = borrowed::place_after(step, place);
     }
     at

@@ -2,8 +2,7 @@
 // reading of values and the writing of options. Says how many answers there were and how many came out otherwise.
 //
 // A record is one byte of kind (1 an area, 2 a reading, 3 a write), the input's length (2 bytes, the highest first), the input, the
-// answer's length (2 bytes) and the answer. docs/RECORDED.md has what input and answer are. What is read of a record, and the page for what
-// the library says, are made once and lent to each.
+// answer's length (2 bytes) and the answer. docs/RECORDED.md has what input and answer are.
 #![tactic(auto)]
 mod areas;
 mod pages;
@@ -39,19 +38,16 @@ fn main() {
         io::write_all(1, b"the file of answers cannot be opened\n");
         return;
     }
-    let mut input = [0u8; 65535];
-    let mut answer = [0u8; 65535];
-    let mut page = [0u8; 65535];
-    let tally = replay_all(fd, &mut input, &mut answer, &mut page);
+    let tally = replay_all(fd);
     libc::close(fd);
     report::say(tally);
 }
 
-fn replay_all(fd: i32, input: &mut [u8], answer: &mut [u8], page: &mut [u8]) -> Tally {
+fn replay_all(fd: i32) -> Tally {
     let mut tally = report::nothing();
     let mut turns = u64::MAX;
     while turns > 0 && tally.more {
-        tally = counted(tally, replay_one(fd, input, answer, page));
+        tally = counted(tally, replay_one(fd));
         turns -= 1;
     }
     tally
@@ -65,24 +61,25 @@ fn counted(tally: Tally, outcome: Outcome) -> Tally {
 }
 
 // Reads one record and replays it.
-fn replay_one(fd: i32, input: &mut [u8], answer: &mut [u8], page: &mut [u8]) -> Outcome {
+fn replay_one(fd: i32) -> Outcome {
     let mut head = [0u8; 1];
     if io::read_full(fd, &mut head) == 0 {
         return Outcome::Ended(Ending::AtEnd);
     }
-    let first = read_counted(fd, input);
+    let mut input = [0u8; 8192];
+    let first = read_counted(fd, &mut input);
     let Took::Bytes(size) = first else {
         return ended(first);
     };
-    let second = read_counted(fd, answer);
+    let mut answer = [0u8; 8192];
+    let second = read_counted(fd, &mut answer);
     let Took::Bytes(length) = second else {
         return ended(second);
     };
     replay(
         head[0],
-        borrowed::part(input, 0, size),
-        borrowed::part(answer, 0, length),
-        page,
+        borrowed::part(&input, 0, size),
+        borrowed::part(&answer, 0, length),
     )
 }
 
@@ -109,19 +106,19 @@ fn read_counted(fd: i32, room: &mut [u8]) -> Took {
     Took::Bytes(size)
 }
 
-fn replay(kind: u8, input: &[u8], answer: &[u8], page: &mut [u8]) -> Outcome {
+fn replay(kind: u8, input: &[u8], answer: &[u8]) -> Outcome {
     match kind {
         report::AREA => Outcome::Replayed {
             kind,
-            right: areas::right(input, answer, page),
+            right: areas::right(input, answer),
         },
         report::READING => Outcome::Replayed {
             kind,
-            right: readings::right(input, answer, page),
+            right: readings::right(input, answer),
         },
         report::WRITE => Outcome::Replayed {
             kind,
-            right: writes::right(input, answer, page),
+            right: writes::right(input, answer),
         },
         _ => Outcome::Ended(Ending::Unknown),
     }

@@ -7,12 +7,13 @@ use crossing::answers::{Element, Value};
 const REFUSED: u8 = 255;
 
 // Whether a code and a value are read as recorded.
-pub(crate) fn right(input: &[u8], answer: &[u8], page: &mut [u8]) -> bool {
+pub(crate) fn right(input: &[u8], answer: &[u8]) -> bool {
     if input.len() == 0 {
         return false;
     }
-    let end = read(page, input[0], &input[1..]);
-    pages::reads(page, end, answer)
+    let mut page = [0u8; 8192];
+    let end = read(&mut page, input[0], &input[1..]);
+    pages::reads(&page, end, answer)
 }
 
 // Puts what a value reads as on the page. Answers the place behind it.

@@ -5,7 +5,7 @@ use Prim.Native.Nat.{ℕ, ◌+◌, ◌≤◌}
 use mathlib.Core.Bool.{Bool, false}
 use mathlib.Core.List.{List, [], ◌∷◌, ◌++◌}
 use lib.ListN.{length}
-use Rattle.rfc.specs.Numbers.{Answer, given, most_bytes, most_part, too_long, past_end, no_code, too_much, no_room, Check, check, checked}
+use Rattle.rfc.specs.Numbers.{Answer, given, most_bytes, most_part, past_end, no_code, too_much, no_room, Check, check, checked}
 use Rattle.rfc.specs.Writing.{Write, encode, write_checks, answer_to, room_left, room_after, write_slice, write_bytes}
 use Rattle.rfc.proofs.Numbers.{Clear, done, next, not_long, not_past}
 
@@ -57,19 +57,14 @@ clear_slice w room place c h =
     let same : Alike (check (past_end place room) 4 ∷ []) w.checks = passes_left (not_past place room h) (clear_none c) in
     (answers_alike room place refl same, left_alike room place refl same)
 
--- the write of a byte value, where everything is checked alike
-module _ (w : Write) (code : ℕ) (v room : List ℕ) (place : ℕ) (bytes : w.bytes ≡ encode most_part code v) where
-  pub checked_as_bytes :
-      Alike w.checks (check (too_long room) 2 ∷ check (past_end place room) 4 ∷ check (no_code code) 6 ∷ check (too_much v) 7 ∷ [])
-      → (answer_to w room place ≡ answer_to (write_bytes code v room place) room place)
-      × (room_after w room place ≡ room_after (write_bytes code v room place) room place)
-  unfolding write_bytes
-  checked_as_bytes same = (answers_alike room place bytes same, left_alike room place bytes same)
-
--- and into a room that is not too long, at a place of it, where the code and the value's length are
+-- into a room that is not too long, at a place of it: the write of a byte value, where the code and the value's length are checked alike
 module _ (w : Write) (code : ℕ) (v room : List ℕ) (place : ℕ) (short : length room ≤ most_bytes) (within : place ≤ length room)
     (bytes : w.bytes ≡ encode most_part code v) (same : Alike w.checks (check (no_code code) 6 ∷ check (too_much v) 7 ∷ [])) where
+  checks_alike : Alike w.checks (write_bytes code v room place).checks
+  unfolding write_bytes
+  checks_alike = passes_right (not_long room short) (passes_right (not_past place room within) same)
+
   pub as_bytes : (answer_to w room place ≡ answer_to (write_bytes code v room place) room place)
       × (room_after w room place ≡ room_after (write_bytes code v room place) room place)
-  as_bytes =
-      checked_as_bytes w code v room place bytes (passes_right (not_long room short) (passes_right (not_past place room within) same))
+  unfolding write_bytes
+  as_bytes = (answers_alike room place bytes checks_alike, left_alike room place bytes checks_alike)

@@ -20,6 +20,7 @@ use Rattle.facts.proofs.Table.{each}
 use Rattle.rfc.specs.Kinds.{size_of}
 use Rattle.rfc.specs.Values.{Content, raw, natural, integer, truth, numbers, nothing, numbers_of, width_of}
 use Rattle.rfc.specs.Typed.{digits_of, bytes_in, Below, Seconds, Proper, bytes, addresses, pairs, u16s, text, codes, flag, Empty, no_bytes, no_numbers}
+use Rattle.rfc.specs.Typed.{address, byte, yes_no, u16, u32, i32, node_type, message_type, three_bytes}
 use Rattle.rfc.proofs.Codes.{size_some}
 use Rattle.rfc.proofs.Typed.{length_digits_of}
 
@@ -60,6 +61,16 @@ empty_kind (addresses l b) no_numbers = lit< tt
 empty_kind (pairs l b) no_numbers = lit< tt
 empty_kind (u16s l b) no_numbers = lit< tt
 empty_kind (codes l b) no_numbers = lit< tt
+empty_kind (address n _) e = elim e [ ]
+empty_kind (byte n _) e = elim e [ ]
+empty_kind (yes_no b) e = elim e [ ]
+empty_kind (u16 n _) e = elim e [ ]
+empty_kind (u32 n _) e = elim e [ ]
+empty_kind (i32 z _) e = elim e [ ]
+empty_kind (node_type n _) e = elim e [ ]
+empty_kind (message_type n _) e = elim e [ ]
+empty_kind (three_bytes a b c) e = elim e [ ]
+empty_kind flag e = elim e [ ]
 
 -- an empty value has no bytes, and no other value but a flag has none
 pub empty_bytes : (kind : ℕ) (content : Content) → Empty content → bytes_in kind content ≡ []

@@ -35,6 +35,7 @@ module _ (message : List ℕ) where
   unfolding message_checks
   message_refusal (here e) = omega arith
   message_refusal (later e (here g)) = omega arith
+  message_refusal (later e (later _ r)) = elim r [ ]
 
   -- a message that is read has the whole header
   pub header_whole : Clear (message_checks message) → least_message ≤ length message

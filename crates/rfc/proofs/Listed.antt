@@ -108,6 +108,7 @@ coded_append (p ∷ ps) qs h g = (h.0, coded_append ps qs h.1 g)
 
 listed_coded : (ps : List Portion) → Coded ps → (code i : ℕ) → At code i (codes_of ps) → IsCode code
 unfolding codes_of
+listed_coded [] h code i a = elim a [ ]
 listed_coded (p ∷ ps) h code i a = go (eqb p.code code) refl (listed_coded ps h.1 code)
   where
     go : (t : Bool) → eqb p.code code ≡ t → ((j : ℕ) → At code j (codes_of ps) → IsCode code) → IsCode code

@@ -11,13 +11,12 @@ use lib.Seq.{drop-append_seam, drop-drop}
 use Rattle.facts.specs.Over.{over}
 use Rattle.facts.specs.Pieces.{pieces}
 use Rattle.facts.proofs.Over.{over_over, length_over}
-use Rattle.rfc.specs.Numbers.{Answer, given, refused, needs, and_then, most_bytes, most_value, most_part, pad_code, end_code}
+use Rattle.rfc.specs.Numbers.{Answer, given, refused, and_then, most_bytes, most_value, most_part, pad_code, end_code}
 use Rattle.rfc.specs.Walk.{Stop, Found, stop, option, end, run, further, step}
 use Rattle.rfc.specs.Writing.{encode, Write, answer_to, room_after, write_bytes, close}
-use Rattle.rfc.specs.Lists.{Opt, Good, Differs, Valid, Within, encode_all, Made, does, finished, write_all, Listing, onward, list_in, listing}
-use Rattle.rfc.proofs.Numbers.{given_no}
+use Rattle.rfc.specs.Lists.{Opt, Good, Differs, Valid, encode_all, Made, does, finished, write_all, Listing, onward, list_in, listing}
 use Rattle.rfc.proofs.Walk.{further_other, walk_end, stop_answered, answered, step_walks}
-use Rattle.rfc.proofs.Writing.{encode_more, never_needs, close_given, close_left, bytes_given, bytes_left}
+use Rattle.rfc.proofs.Writing.{encode_more, close_given, close_left, bytes_given, bytes_left}
 use Rattle.rfc.proofs.Parts.{walk_value}
 
 some_part : 0 < most_part
@@ -42,49 +41,26 @@ ends_at : (w : Write) (room : List ℕ) (place k : ℕ) (more : List ℕ → ℕ
 unfolding does and_then
 ends_at w room place k more e = ap (λ (a : Answer ℕ). and_then a (more (room_after w room place))) e
 
--- where a run of writes makes something, its first write is given, and what follows makes it
-pub does_given : (w : Write) (room : List ℕ) (place : ℕ) (more : List ℕ → ℕ → Answer Made) (made : Made) → does w room place more ≡ given made
-    → (to : ℕ) × (answer_to w room place ≡ given to) × (more (room_after w room place) to ≡ given made)
-unfolding does and_then
-does_given w room place more made e = go (answer_to w room place) refl e
-  where
-    go : (a : Answer ℕ) → answer_to w room place ≡ a → and_then a (more (room_after w room place)) ≡ given made
-        → (to : ℕ) × (answer_to w room place ≡ given to) × (more (room_after w room place) to ≡ given made)
-    go (given to) is f = (to, is, f)
-    go (refused k) is f = absurd (given_no made k (sym f))
-    go (needs n) is f = absurd (never_needs w room place n is)
-
--- writes that answer and leave the same, and are followed alike, make the same
-pub does_alike : (w v : Write) (room : List ℕ) (place : ℕ) (more others : List ℕ → ℕ → Answer Made)
-    → answer_to w room place ≡ answer_to v room place → room_after w room place ≡ room_after v room place
-    → ((room' : List ℕ) (to : ℕ) → more room' to ≡ others room' to) → does w room place more ≡ does v room place others
-unfolding does
-does_alike w v room place more others a b same = λ i. and_then (a i) (λ (to : ℕ). same (b i) to i)
-
 -- so a list, write by write
 module _ (room : List ℕ) (place : ℕ) where
-  pub all_none : write_all [] room place ≡ does (close room place) room place finished
-  unfolding write_all
-  all_none = refl
-
-  pub all_first : (o : Opt) (os : List Opt) → write_all (o ∷ os) room place ≡ does (write_bytes o.code o.value room place) room place (write_all os)
-  unfolding write_all
-  all_first o os = refl
-
   pub all_goes_on : {room' : List ℕ} {to : ℕ} (o : Opt) (os : List Opt) → answer_to (write_bytes o.code o.value room place) room place ≡ given to
       → room_after (write_bytes o.code o.value room place) room place ≡ room' → write_all (o ∷ os) room place ≡ write_all os room' to
-  all_goes_on o os a b = all_first o os ∙ goes_on _ room _ place _ (write_all os) a b
+  unfolding write_all
+  all_goes_on o os a b = goes_on _ room _ place _ (write_all os) a b
 
   pub all_ends_at : {k : ℕ} (o : Opt) (os : List Opt) → answer_to (write_bytes o.code o.value room place) room place ≡ refused k
       → write_all (o ∷ os) room place ≡ refused k
-  all_ends_at o os e = all_first o os ∙ ends_at _ room place _ (write_all os) e
+  unfolding write_all
+  all_ends_at o os e = ends_at _ room place _ (write_all os) e
 
   pub all_closes : {room' : List ℕ} {to : ℕ} → answer_to (close room place) room place ≡ given to → room_after (close room place) room place ≡ room'
       → write_all [] room place ≡ finished room' to
-  all_closes a b = all_none ∙ goes_on _ room _ place _ finished a b
+  unfolding write_all
+  all_closes a b = goes_on _ room _ place _ finished a b
 
   pub all_not_closed : {k : ℕ} → answer_to (close room place) room place ≡ refused k → write_all [] room place ≡ refused k
-  all_not_closed e = all_none ∙ ends_at _ room place _ finished e
+  unfolding write_all
+  all_not_closed e = ends_at _ room place _ finished e
 
 -- a list that fits is written as its bytes, at any place
 pub writes_all : (os : List Opt) (room : List ℕ) (place : ℕ)
@@ -142,7 +118,7 @@ pub list_whole : (area : List ℕ) (room : ℕ) → listing area room ≡ list_i
 unfolding listing
 list_whole area room = refl
 
-module _ (area rest : List ℕ) (room : ℕ) (short : length area ≤ most_bytes) where
+module _ (area rest : List ℕ) (room : ℕ) (short : length area ≤ most_bytes) (joins : most_value ≤ room) where
   -- the call at the list's End
   pub at-end : (place : ℕ) → place ≤ length area → drop place area ≡ encode_all [] ++ rest
       → step area place room ≡ given (stop end (place + length (encode_all [])))
@@ -150,7 +126,7 @@ module _ (area rest : List ℕ) (room : ℕ) (short : length area ≤ most_bytes
   at-end place inside e =
       rw (step_walks area place room short inside, e, walk_end place end_code rest refl) (stop_answered room end (place + 1))
 
-  -- the call at its first option, whose value there is room to join, and where the rest of the list stands
+  -- the call at its first option, and where the rest of the list stands
   pub record First (o : Opt) (os : List Opt) (place : ℕ) : Type 0 where
     pub parts : ℕ
     pub to : ℕ
@@ -159,10 +135,10 @@ module _ (area rest : List ℕ) (room : ℕ) (short : length area ≤ most_bytes
     pub more : drop to area ≡ encode_all os ++ rest
     pub ends : to + length (encode_all os) ≡ place + length (encode_all (o ∷ os))
 
-  pub at_option : (o : Opt) (os : List Opt) (place : ℕ) → Valid (o ∷ os) → length o.value ≤ room → place ≤ length area
-      → drop place area ≡ encode_all (o ∷ os) ++ rest → First o os place
+  pub at_option : (o : Opt) (os : List Opt) (place : ℕ) → Valid (o ∷ os) → place ≤ length area → drop place area ≡ encode_all (o ∷ os) ++ rest
+      → First o os place
   unfolding encode_all
-  at_option o os place v joins inside e =
+  at_option o os place v inside e =
       let code : ℕ = o.code in
       let value : List ℕ = o.value in
       let here : List ℕ = encode most_part code value in
@@ -180,21 +156,20 @@ module _ (area rest : List ℕ) (room : ℕ) (short : length area ≤ most_bytes
               a,
               walk_value code there other (not_pad v.0) (not_end v.0) most_part some_part place value v.0.some,
             )
-            (answered room code value n to joins);
+            (answered room code value n to (omega (arith, v.0.most)));
         within = omega (arith, ap length a, length-append here there, length-drop place area);
         more = sym (drop-drop (length here) place area) ∙ ap (drop (length here)) a ∙ drop-append_seam here there;
         ends = omega (arith, length-append here (encode_all os));
       }
 
-  list-in : (os : List Opt) (place k : ℕ) → Valid os → Within room os → length os ≤ k → place ≤ length area
-      → drop place area ≡ encode_all os ++ rest
+  list-in : (os : List Opt) (place k : ℕ) → Valid os → length os ≤ k → place ≤ length area → drop place area ≡ encode_all os ++ rest
       → list_in k area room place ≡ record { options = os; ending = given (stop end (place + length (encode_all os))) }
-  list-in [] place zero v j h inside e = list_none area room place ∙ (λ i. record { options = []; ending = at-end place inside e i })
-  list-in [] place (suc k) v j h inside e = list_stop area room place k (at-end place inside e)
-  list-in (o ∷ os) place zero v j h inside e = absurd (not-suc-le-zero h)
-  list-in (o ∷ os) place (suc k) v j h inside e =
-      let first = at_option o os place v j.0 inside e in
-      let r = list-in os first.to k v.2 j.1 (omega arith) first.within first.more in
+  list-in [] place zero v h inside e = list_none area room place ∙ (λ i. record { options = []; ending = at-end place inside e i })
+  list-in [] place (suc k) v h inside e = list_stop area room place k (at-end place inside e)
+  list-in (o ∷ os) place zero v h inside e = absurd (not-suc-le-zero h)
+  list-in (o ∷ os) place (suc k) v h inside e =
+      let first = at_option o os place v inside e in
+      let r = list-in os first.to k v.2 (omega arith) first.within first.more in
       list_option area room place k first.finds
       ∙ (λ i. record { options = o ∷ (r i).options; ending = (r i).ending })
       ∙ (λ i. record { options = o ∷ os; ending = given (stop end (first.ends i)) })
@@ -207,24 +182,15 @@ length_list (o ∷ os) v =
     let some = ap length (encode_more most_part some_part o.code o.value v.0.some) in
     omega (arith, length_list os v.2, length-append (encode most_part o.code o.value) (encode_all os))
 
--- the list's bytes, with any bytes behind them, are walked as the list, up to its End, where there is room to join each value
-pub walks_within : (os : List Opt) (rest : List ℕ) (room : ℕ) → Valid os → Within room os → length (encode_all os ++ rest) ≤ most_bytes
-    → listing (encode_all os ++ rest) room ≡ record { options = os; ending = given (stop end (length (encode_all os))) }
-unfolding listing
-walks_within os rest room v j h =
-    let z : 0 + length (encode_all os) ≡ length (encode_all os) = omega arith in
-    let area : List ℕ = encode_all os ++ rest in
-    list-in area rest room h os 0 (length area) v j (omega (arith, length_list os v, length-append (encode_all os) rest)) (omega arith) refl
-    ∙ (λ i. record { options = os; ending = given (stop end (z i)) })
-
--- as much room as a value has bytes at most is room for each
-pub all_within : (os : List Opt) (room : ℕ) → Valid os → most_value ≤ room → Within room os
-all_within [] room v h = tt
-all_within (o ∷ os) room v h = (omega (arith, v.0.most), all_within os room v.2 h)
-
+-- the list's bytes, with any bytes behind them, are walked as the list, up to its End
 pub walks_all : (os : List Opt) (rest : List ℕ) (room : ℕ) → Valid os → most_value ≤ room → length (encode_all os ++ rest) ≤ most_bytes
     → listing (encode_all os ++ rest) room ≡ record { options = os; ending = given (stop end (length (encode_all os))) }
-walks_all os rest room v j h = walks_within os rest room v (all_within os room v j) h
+unfolding listing
+walks_all os rest room v j h =
+    let z : 0 + length (encode_all os) ≡ length (encode_all os) = omega arith in
+    let area : List ℕ = encode_all os ++ rest in
+    list-in area rest room h j os 0 (length area) v (omega (arith, length_list os v, length-append (encode_all os) rest)) (omega arith) refl
+    ∙ (λ i. record { options = os; ending = given (stop end (z i)) })
 
 -- so two lists of which one's bytes begin the other's are one
 pub one_list : (os ps : List Opt) (rest : List ℕ) → Valid os → Valid ps → length (encode_all ps) ≤ most_bytes

@@ -1,7 +1,6 @@
 -- Lists of options, written one behind the other and walked call after call (demand 3).
 -- Assumes nothing.
 use Rattle.std.specs.Prelude.{ℕ, suc, zero, ◌≤◌, ◌<◌, ◌≡◌, List, [], ◌∷◌, ◌++◌, length}
-use Rattle.facts.specs.Each.{Each}
 use Rattle.rfc.specs.Numbers.{Answer, given, refused, needs, and_then, most_value, most_part, end_code}
 use Rattle.rfc.specs.Walk.{Stop, Found, stop, option, step}
 use Rattle.rfc.specs.Writing.{encode, Write, answer_to, room_after, write_bytes, close}
@@ -11,7 +10,7 @@ pub record Opt : Type 0 where
   pub code : ℕ
   pub value : List ℕ
 
--- a code from 1 to 254, and a value of 1 to 65,024 bytes
+-- a code from 1 to 254, and a value of 1 to 4,080 bytes
 pub record Good (o : Opt) : Type 0 where
   pub low : 1 ≤ o.code
   pub high : o.code ≤ 254
@@ -27,10 +26,6 @@ Differs code (o ∷ os) = o.code ≡ code → ⊥
 abbrev pub Valid : List Opt → Type 0
 Valid [] = Unit {0}
 Valid (o ∷ os) = Good o × Differs o.code os × Valid os
-
--- every value of a list has at most so many bytes
-abbrev pub Within : ℕ → List Opt → Type 0
-Within most = Each (λ (o : Opt). length o.value ≤ most)
 
 -- every number of a list is a byte
 abbrev pub Bytes : List ℕ → Type 0

@@ -27,9 +27,9 @@ least_message = 240
 abbrev pub most_bytes : ℕ
 most_bytes = 65535
 
--- the most bytes of a value to be written: in 255 parts they take 65,534 bytes, and an End behind them fills an area
+-- the most bytes of a value to be written
 abbrev pub most_value : ℕ
-most_value = 65024
+most_value = 4080
 
 -- the most bytes of one part of a value: its length is one byte (RFC 2132, section 2)
 abbrev pub most_part : ℕ
@@ -63,7 +63,7 @@ no_element index count = leb count index
 unfoldable pub no_code : ℕ → Bool
 no_code code = eqb code pad_code || eqb code end_code
 
--- 7: the whole value to be written has more than 65,024 bytes
+-- 7: the whole value to be written has more than 4,080 bytes
 unfoldable pub too_much : List ℕ → Bool
 too_much value = ltb most_value (length value)
 

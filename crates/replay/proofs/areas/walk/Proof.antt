@@ -5,7 +5,7 @@ use Rattle.replay.proofs.areas.walk.Statement.{statement}
 use Rattle.replay.proofs.areas.walk.Tie as tie
 
 abbrev invariant_loop : tie.invariant_loop
-invariant_loop area page₀ join₀ place₀ at₀ left₀ page join place at left = (length page ≡ length page₀) × (length join ≡ length join₀)
+invariant_loop area page₀ join₀ place₀ at₀ left₀ page join place at left = (length page ≡ length page₀) × (4096 ≡ length join)
 
 abbrev decreases_loop : tie.decreases_loop
 decreases_loop area page₀ join₀ place₀ at₀ left₀ page join place at left = left
@@ -17,13 +17,15 @@ walk_spec =
     invariant_loop
     decreases_loop
     (λ c. search rules)
+    (λ c κs. search rules)
+    (λ c. search rules)
     (λ c. search rules)
     (λ c. search rules)
     (λ c. search rules)
     (λ c κs. search rules)
-    (λ c κs. search rules)
-    (λ c κs. search rules)
     (λ c. search rules)
+    (λ c κs. search rules)
+    (λ c κs. search rules)
     (λ c. search rules)
     (λ c. search rules)
     (λ c. search rules)

@@ -5,10 +5,10 @@ use Rattle.replay.proofs.writes.u16s_of.Statement.{statement}
 use Rattle.replay.proofs.writes.u16s_of.Tie as tie
 
 abbrev invariant_loop : tie.invariant_loop
-invariant_loop bytes numbers₀ i₀ numbers i = i ≤ 32768
+invariant_loop bytes numbers₀ i₀ numbers i = i ≤ 2048
 
 abbrev decreases_loop : tie.decreases_loop
-decreases_loop bytes numbers₀ i₀ numbers i = 32768 - i
+decreases_loop bytes numbers₀ i₀ numbers i = 2048 - i
 
 pub u16s_of_spec : {M : Type 1} → statement M
 u16s_of_spec =

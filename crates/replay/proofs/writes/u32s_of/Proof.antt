@@ -5,10 +5,10 @@ use Rattle.replay.proofs.writes.u32s_of.Statement.{statement}
 use Rattle.replay.proofs.writes.u32s_of.Tie as tie
 
 abbrev invariant_loop : tie.invariant_loop
-invariant_loop bytes numbers₀ i₀ numbers i = i ≤ 16384
+invariant_loop bytes numbers₀ i₀ numbers i = i ≤ 1024
 
 abbrev decreases_loop : tie.decreases_loop
-decreases_loop bytes numbers₀ i₀ numbers i = 16384 - i
+decreases_loop bytes numbers₀ i₀ numbers i = 1024 - i
 
 pub u32s_of_spec : {M : Type 1} → statement M
 u32s_of_spec =
