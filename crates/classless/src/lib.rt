@@ -20,7 +20,7 @@ pub const MOST_WIDTH: u8 = 32;
 // What begins at a place of a value: a route that was found; or nothing more, or the number of a refusal, where all else is 0 but for the
 // place. That is where the next row begins, behind the route; else it is the one that was given. A route by its index has 0 there.
 #[repr(C)]
-#[derive(Drop)]
+#[derive(Clone, Copy)]
 pub struct ReadRoute {
     pub refused: u8,
     pub found: bool,

@@ -1,0 +1,10 @@
+-- `put_stop` meets its contract: the word, the place and the end of the line.
+-- Assumes nothing.
+use Rattle.pen.proofs.Adding.{both}
+use Rattle.lines.specs.Listing.{stop_line}
+use Rattle.lines.proofs.put_stop.Goals as goal
+
+pub returns : goal.returns
+unfolding stop_line
+returns c =
+    both _ _ _ (both _ _ _ c.put_stop_word-number.ensures c.put_decimal-end.ensures) c.put_word.ensures

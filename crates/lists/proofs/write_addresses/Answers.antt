@@ -1,0 +1,11 @@
+-- `write_addresses` meets its contract: the bytes of a list of this kind are written.
+-- Assumes nothing.
+use Rattle.rfc.proofs.Values.{addresses}
+use Rattle.lists.proofs.Cuts.{cut_addresses, list_holds}
+use Rattle.lists.proofs.write_addresses.Goals as goal
+
+pub write_u32s_as-requires : goal.write_u32s_as-requires
+write_u32s_as-requires c = cut_addresses
+
+pub returns : goal.returns
+returns c = list_holds addresses _ _ _ _ c.write_u32s_as.ensures

@@ -1,0 +1,12 @@
+-- `write_address` meets its contract: the bytes are the digits of the number.
+-- Assumes nothing.
+use Rattle.rfc.proofs.Values.{address}
+use Rattle.typed.proofs.Answers.{digits_as, holds_number}
+use borrow.Author.Rules.{rules}
+use Rattle.typed.proofs.write_address.Goals as goal
+
+pub write_as-requires : goal.write_as-requires
+write_as-requires c = search (rules, digits_as address)
+
+pub returns : goal.returns
+returns c = search (rules, holds_number address)
