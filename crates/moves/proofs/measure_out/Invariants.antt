@@ -1,0 +1,18 @@
+-- `measure_out` meets its contract: the pairs from where the loop stands give, from the state that it has, the same end.
+-- Assumes nothing.
+use mathlib.Core.Path.{◌≡◌}
+use Prim.Native.Nat.{◌-◌, ◌%◌, ◌≤◌}
+use mathlib.Core.List.{foldl}
+use lib.ListN.{length, drop}
+use Rattle.rfc.specs.Moves.{out_rows}
+use Rattle.laying.specs.Passes.{gauged}
+use Rattle.moves.proofs.measure_out.Given as goal
+
+abbrev pub invariant-loop-at : goal.invariant-loop-at
+invariant-loop-at l = (l.at ≤ length l.value)
+    × (l.at % 8 ≡ 0)
+    × (length l.value % 8 ≡ 0)
+    × (foldl gauged l.pass (out_rows (drop l.at l.value)) ≡ foldl gauged l.initial.pass (out_rows l.value))
+
+abbrev pub decreases-loop-at : goal.decreases-loop-at
+decreases-loop-at l = length l.value - l.at
