@@ -60,7 +60,7 @@ amounts code ps e =
 tallied_both : (code : ℕ) (t : Tally) (ps qs : List Portion) → tallied code t (ps ++ qs) ≡ tallied code (tallied code t ps) qs
 unfolding tallied
 tallied_both code t [] qs = cut_aside code t (whole qs)
-tallied_both code t (p ∷ ps) qs = tallied_both code _ ps qs
+tallied_both code t (p ∷ ps) qs = tallied_both code (cond (eqb p.code code) (tally (t.parts + 1) (t.len + length p.value) p.place) t) ps qs
 
 -- no more is counted of a field than it has bytes
 tallied_fits : (code : ℕ) (t : Tally) (at : ℕ) (field : List ℕ) (ps : List Portion) → portions at field ≡ whole ps

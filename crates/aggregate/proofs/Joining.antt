@@ -5,8 +5,7 @@ use mathlib.Core.Path.{◌≡◌, sym, ap, ◌∙◌}
 use native.Mathlib.Omega.{arith}
 use mathlib.Core.List.{List, [], ◌∷◌, ◌++◌, append-nil, append_assoc}
 use lib.ListN.{length, take, drop, length-append}
-use types.Run.{OneOf}
-use denote.Enum.Declared.{tag_of}
+use mathlib.Core.Logic.{◌⊎◌}
 use Rattle.facts.specs.Over.{over}
 use Rattle.facts.proofs.Over.{over_nil, over_over, length_over}
 use Rattle.rfc.specs.Portions.{Portion, portion, next_portion, whole, portions, of_code, joined_value}
@@ -20,8 +19,7 @@ use Rattle.encoder.specs.declared.Written.{Written}
 use Rattle.encoder.proofs.Answers.{put_part}
 use Rattle.portions.specs.Told.{next_of}
 use Rattle.portions.specs.declared.Next.{Next}
-use Rattle.portions.specs.declared.Next.TheVariants.{Part}
-use Rattle.portions.specs.contracts.Next.{the_type}
+use Rattle.portions.specs.declared.Next.TheVariants.{Ended, Cut, Part}
 use Rattle.portions.proofs.Left.{FirstLeft, first_left, none_left}
 use Rattle.aggregate.specs.Gathered.{value_in, Joins}
 
@@ -84,7 +82,7 @@ module _ {bytes : List ℕ} {start code : ℕ} {join₀ : List ℕ} {to : ℕ} {
 
   module _ (r : Next) (told : r ≡ next_of (next_portion at (drop at bytes))) where
     -- where no part is left, all are joined
-    pub joined_all : OneOf (0 ∷ 1 ∷ []) (tag_of the_type r)
+    pub joined_all : (r ≡ Ended) ⊎ (r ≡ Cut)
         → (join ≡ over join₀ to (value_in bytes start code)) × (end ≡ to + length (value_in bytes start code))
     joined_all t =
         let z : s.left ≡ [] = none_left bytes at s.left s.rest r told t in

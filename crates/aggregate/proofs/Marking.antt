@@ -76,7 +76,7 @@ unfolding sees
 says_after {index} {s} ps h [] c = subst (λ (l : List Portion). Says index (codes_of l) s) (sym (append-nil ps)) h
 says_after {index} {s} ps h (q ∷ qs) c =
     subst (λ (l : List Portion). Says index (codes_of l) (sees index (marked index s q.code) qs)) (append_snoc ps q qs)
-    (says_after (ps ++ q ∷ []) (says_more ps h q (omega (arith, c.0.1))) qs c.1)
+    (says_after {s = marked index s q.code} (ps ++ q ∷ []) (says_more ps h q (omega (arith, c.0.1))) qs c.1)
 
 says_none : (index : ℕ) → Says index (codes_of []) (replicate 256 0, record { codes = 0; code = 0 })
 says_none index =

@@ -51,4 +51,5 @@ pub cut_is : (code : ℕ) (t : Tally) (f : Portions) → (counted code t f).cut 
 unfolding tallied
 cut_is code t cut_field = sym cut-field
 cut_is code t (whole []) = sym (cut_whole [])
-cut_is code t (whole (p ∷ ps)) = cut_is code _ (whole ps) ∙ cut_whole ps ∙ sym (cut_whole (p ∷ ps))
+cut_is code t (whole (p ∷ ps)) =
+    cut_is code (cond (eqb p.code code) (tally (t.parts + 1) (t.len + length p.value) p.place) t) (whole ps) ∙ cut_whole ps ∙ sym (cut_whole (p ∷ ps))

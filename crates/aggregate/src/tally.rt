@@ -1,7 +1,7 @@
 // The parts of one code in a field, counted.
 ghost use Rattle.std.specs.Prelude.{◌≡◌, drop};
 ghost use Rattle.rfc.specs.Portions.{portions};
-ghost use Rattle.aggregate.specs.Tallies.{Few, counted, none as noParts};
+ghost use Rattle.aggregate.specs.Tallies.{Few, counted, none as no_parts};
 
 use portions::Next;
 
@@ -17,7 +17,7 @@ pub struct Tally {
 
 // Before anything is counted.
 pub(crate) fn none() -> Tally
-    ensures { result ≡ noParts }
+    ensures { result ≡ no_parts }
 {
     Tally {
         cut: false,

@@ -74,9 +74,9 @@ some_further {area} {at} {parts} {len} c e =
 stop-of : (s : rfc.Stop) → stop_of (stop_back s) ≡ s
 stop-of rfc.out = refl
 stop-of rfc.end = refl
-stop-of rfc.cutLength = refl
-stop-of rfc.cutValue = refl
-stop-of rfc.cutContinuation = refl
+stop-of rfc.cut_length = refl
+stop-of rfc.cut_value = refl
+stop-of rfc.cut_continuation = refl
 
 pub stopped_is : (s : Stop) (place : ℕ) (a : Answer rfc.Found) → Stopped s place ≡ sizes a → a ≡ given (stop (stop_of s) place)
 stopped_is s place (given (stop t at)) e =

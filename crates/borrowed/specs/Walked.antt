@@ -17,17 +17,17 @@ use Rattle.borrowed.specs.declared.parts.Run.TheVariants.{Cut, Whole}
 abbrev pub stop_of : Stop → rfc.Stop
 stop_of Out = rfc.out
 stop_of End = rfc.end
-stop_of CutLength = rfc.cutLength
-stop_of CutValue = rfc.cutValue
-stop_of CutContinuation = rfc.cutContinuation
+stop_of CutLength = rfc.cut_length
+stop_of CutValue = rfc.cut_value
+stop_of CutContinuation = rfc.cut_continuation
 
 -- each stop's name in the code
 abbrev pub stop_back : rfc.Stop → Stop
 stop_back rfc.out = Out
 stop_back rfc.end = End
-stop_back rfc.cutLength = CutLength
-stop_back rfc.cutValue = CutValue
-stop_back rfc.cutContinuation = CutContinuation
+stop_back rfc.cut_length = CutLength
+stop_back rfc.cut_value = CutValue
+stop_back rfc.cut_continuation = CutContinuation
 
 -- what is found, by its numbers
 abbrev pub sizes : Answer rfc.Found → Step

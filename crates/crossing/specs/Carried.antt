@@ -30,9 +30,9 @@ field_of (needs len) = record { refused = 5; number = 0 }
 abbrev pub stop_number : walk.Stop → ℕ
 stop_number walk.out = 1
 stop_number walk.end = 2
-stop_number walk.cutLength = 3
-stop_number walk.cutValue = 4
-stop_number walk.cutContinuation = 5
+stop_number walk.cut_length = 3
+stop_number walk.cut_value = 4
+stop_number walk.cut_continuation = 5
 
 -- one call of the walk from a place
 abbrev pub step_of : ℕ → Answer walk.Found → Step

@@ -57,9 +57,9 @@ refused_most number = ended (number_most words.refused number)
 name_most : (s : walk.Stop) → length (stop_word s) ≤ 22
 name_most walk.out = omega arith
 name_most walk.end = omega arith
-name_most walk.cutLength = omega arith
-name_most walk.cutValue = omega arith
-name_most walk.cutContinuation = omega arith
+name_most walk.cut_length = omega arith
+name_most walk.cut_value = omega arith
+name_most walk.cut_continuation = omega arith
 
 stop_most : (s : walk.Stop) (at : ℕ) → length (stop_line s at) ≤ 43
 unfolding stop_line

@@ -51,9 +51,9 @@ option_line code v parts =
 abbrev pub stop_word : walk.Stop → List ℕ
 stop_word walk.out = words.stop_out
 stop_word walk.end = words.stop_end
-stop_word walk.cutLength = words.stop_cut_length
-stop_word walk.cutValue = words.stop_cut_value
-stop_word walk.cutContinuation = words.stop_cut_continuation
+stop_word walk.cut_length = words.stop_cut_length
+stop_word walk.cut_value = words.stop_cut_value
+stop_word walk.cut_continuation = words.stop_cut_continuation
 
 -- a stop and its place
 unfoldable pub stop_line : walk.Stop → ℕ → List ℕ

@@ -6,15 +6,13 @@ use native.Mathlib.Omega.{arith}
 use mathlib.Core.List.{List, [], ◌∷◌}
 use lib.ListN.{length, drop, length-drop}
 use lib.Seq.{drop-drop}
-use types.Run.{OneOf, miss}
-use denote.Enum.Declared.{tag_of}
+use mathlib.Core.Logic.{◌⊎◌, ⊎_elim}
 use Rattle.rfc.specs.Portions as rfc
 use Rattle.rfc.specs.Portions.{Portion, portion, next_portion, cut_field, whole, ahead, portions}
 use Rattle.rfc.proofs.Portions.{stands, ended, is-cut, one_part, ahead_is}
 use Rattle.portions.specs.Told.{next_of}
 use Rattle.portions.specs.declared.Next.{Next}
 use Rattle.portions.specs.declared.Next.TheVariants.{Ended, Cut, Part}
-use Rattle.portions.specs.contracts.Next.{the_type}
 
 -- the first part of what is left of a field, by its numbers, in front of what stands behind its place
 pub record FirstPart (bytes : List ℕ) (at code len place : ℕ) : Type 0 where
@@ -31,7 +29,7 @@ module _ (bytes : List ℕ) (at : ℕ) {r : Next} (told : r ≡ next_of (next_po
     where
       go : (x : rfc.Next) → next_portion at (drop at bytes) ≡ x → portions at (drop at bytes) ≡ whole []
       go rfc.no_more w = ended at (drop at bytes) w
-      go rfc.cutPart w = absurd (let z : ◌≡◌ {A = ℕ} 0 1 = cc (ap next_of w) in omega arith)
+      go rfc.cut_part w = absurd (let z : ◌≡◌ {A = ℕ} 0 1 = cc (ap next_of w) in omega arith)
       go (rfc.next p l) w = absurd (let z : ◌≡◌ {A = ℕ} 0 1 = cc (ap next_of w) in omega arith)
 
   pub cut_left : r ≡ Cut → portions at (drop at bytes) ≡ cut_field
@@ -39,7 +37,7 @@ module _ (bytes : List ℕ) (at : ℕ) {r : Next} (told : r ≡ next_of (next_po
     where
       go : (x : rfc.Next) → next_portion at (drop at bytes) ≡ x → portions at (drop at bytes) ≡ cut_field
       go rfc.no_more w = absurd (let z : ◌≡◌ {A = ℕ} 0 1 = cc (ap next_of w) in omega arith)
-      go rfc.cutPart w = is-cut at (drop at bytes) w
+      go rfc.cut_part w = is-cut at (drop at bytes) w
       go (rfc.next p l) w = absurd (let z : ◌≡◌ {A = ℕ} 0 1 = cc (ap next_of w) in omega arith)
 
   pub first_part : {code len place : ℕ} → r ≡ Part code len place → FirstPart bytes at code len place
@@ -47,7 +45,7 @@ module _ (bytes : List ℕ) (at : ℕ) {r : Next} (told : r ≡ next_of (next_po
     where
       go : (x : rfc.Next) → next_portion at (drop at bytes) ≡ x → FirstPart bytes at code len place
       go rfc.no_more w = absurd (let z : ◌≡◌ {A = ℕ} 0 1 = cc (ap next_of w) in omega arith)
-      go rfc.cutPart w = absurd (let z : ◌≡◌ {A = ℕ} 0 1 = cc (ap next_of w) in omega arith)
+      go rfc.cut_part w = absurd (let z : ◌≡◌ {A = ℕ} 0 1 = cc (ap next_of w) in omega arith)
       go (rfc.next p l) w =
           let s = stands at (drop at bytes) p l w in
           let code_is : p.code ≡ code = cc (ap next_of w) in
@@ -92,10 +90,12 @@ module _ (bytes : List ℕ) (at : ℕ) (ps : List Portion) (left : portions at (
       }
 
   -- no more parts are left, where no part is answered
-  pub none_left : OneOf (0 ∷ 1 ∷ []) (tag_of the_type r) → ps ≡ []
+  pub none_left : (r ≡ Ended) ⊎ (r ≡ Cut) → ps ≡ []
   none_left t = go (next_portion at (drop at bytes)) refl
     where
       go : (x : rfc.Next) → next_portion at (drop at bytes) ≡ x → ps ≡ []
       go rfc.no_more w = let same : whole ps ≡ whole [] = sym left ∙ ended at (drop at bytes) w in cc
-      go rfc.cutPart w = absurd (let z : ◌≡◌ {A = ℕ} 0 1 = cc (is-cut at (drop at bytes) w) in omega arith)
-      go (rfc.next p l) w = absurd (miss (0 ∷ 1 ∷ []) 2 tt (subst (λ (x : Next). OneOf (0 ∷ 1 ∷ []) (tag_of the_type x)) (told ∙ ap next_of w) t))
+      go rfc.cut_part w = absurd (let z : ◌≡◌ {A = ℕ} 0 1 = cc (is-cut at (drop at bytes) w) in omega arith)
+      go (rfc.next p l) w =
+          let e : r ≡ next_of (rfc.next p l) = told ∙ ap next_of w in
+          absurd (⊎_elim (λ a. let z : ◌≡◌ {A = ℕ} 0 1 = cc in omega arith) (λ a. let z : ◌≡◌ {A = ℕ} 0 1 = cc in omega arith) t)

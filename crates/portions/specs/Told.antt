@@ -9,7 +9,7 @@ use Rattle.portions.specs.declared.Next.TheVariants.{Ended, Cut, Part}
 -- what stands first, by its numbers
 abbrev pub next_of : rfc.Next → Next
 next_of rfc.no_more = Ended
-next_of rfc.cutPart = Cut
+next_of rfc.cut_part = Cut
 next_of (rfc.next p rest) = Part p.code (length p.value) p.place
 
 -- Between the functions of the crate: a place at which something stands, and no Pad

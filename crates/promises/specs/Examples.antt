@@ -2,7 +2,7 @@
 -- Assumes nothing.
 use Rattle.std.specs.Prelude.{ℕ, ◌≡◌, false, List, [], ◌∷◌, ◌++◌, map, pos, negsuc, length, replicate}
 use Rattle.rfc.specs.Numbers.{Answer, given, refused, most_value}
-use Rattle.rfc.specs.Walk.{Found, stop, option, out, end, cutLength, cutValue, cutContinuation, step}
+use Rattle.rfc.specs.Walk.{Found, stop, option, out, end, cut_length, cut_value, cut_continuation, step}
 use Rattle.rfc.specs.Values.{Content, integer, truth, Value, Mode, plain, strict, read}
 use Rattle.rfc.specs.Writing.{answer_to, room_after}
 use Rattle.rfc.specs.Routes.{Route, write_routes}
@@ -63,15 +63,15 @@ P3 =
 abbrev pub P4 : Case
 P4 =
     walks (12 ∷ 1 ∷ 65 ∷ 12 ∷ 1 ∷ 66 ∷ 12 ∷ 5 ∷ [])
-    (from 0 (stop cutContinuation 3) ∷ from 3 (stop cutContinuation 6) ∷ from 6 (stop cutValue 8) ∷ from 8 (stop out 8) ∷ [])
+    (from 0 (stop cut_continuation 3) ∷ from 3 (stop cut_continuation 6) ∷ from 6 (stop cut_value 8) ∷ from 8 (stop out 8) ∷ [])
 
 -- a cut value, read on as codes
 abbrev pub P5 : Case
-P5 = walks (12 ∷ 5 ∷ 65 ∷ 66 ∷ []) (from 0 (stop cutValue 2) ∷ from 2 (stop cutValue 4) ∷ from 4 (stop out 4) ∷ [])
+P5 = walks (12 ∷ 5 ∷ 65 ∷ 66 ∷ []) (from 0 (stop cut_value 2) ∷ from 2 (stop cut_value 4) ∷ from 4 (stop out 4) ∷ [])
 
 -- a code and no length byte; nothing; Pads
 abbrev pub P6 : Case
-P6 = walks (12 ∷ []) (from 0 (stop cutLength 1) ∷ [])
+P6 = walks (12 ∷ []) (from 0 (stop cut_length 1) ∷ [])
 
 abbrev pub P7 : Case
 P7 = walks [] (from 0 (stop out 0) ∷ [])

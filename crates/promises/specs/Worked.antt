@@ -12,15 +12,15 @@ use Rattle.facts.specs.Ranges.{lookup, row}
 use Rattle.facts.specs.BigEndian.{digits, number, number_at, signed, unsigned}
 use Rattle.rfc.specs.Numbers.{and_then, check, checked, first_refusal, given, most_part, needs, no_code, no_element, no_room, order, past_end, refused, too_long, too_much, too_short}
 use Rattle.rfc.specs.Header.{address, area, chaddr, field, file_field, flags, hlen, hlen_of, magic, magic_field, magic_right, options, part, sname, spills, until_zero, wrong_magic, xid, yiaddr}
-use Rattle.rfc.specs.Walk.{behind, cut, cutContinuation, cutLength, cutValue, end, extend, further, join_after, joined, option, out, place_after, room_for, run, step, stop, walk}
+use Rattle.rfc.specs.Walk.{behind, cut, cut_continuation, cut_length, cut_value, end, extend, further, join_after, joined, option, out, place_after, room_for, run, step, stop, walk}
 use Rattle.rfc.specs.Kinds.{from, has, kind_of, only, size_of}
 use Rattle.rfc.specs.Text.{lead, owes, tail, utf8}
-use Rattle.rfc.specs.Values.{Content, ListOrText, Value, at_least, breaks, element, element_at, elements, exactly, hNode, home_agents, integer, length_mode, multiple, natural, node_of, not_text, nothing, numbers, numbers_of, oneOrMore, plain, raw, read, read_option, rule_for, stopped, strict, truth, unclear, unknown, value_of, valued, width_of, wrong_length}
+use Rattle.rfc.specs.Values.{Content, ListOrText, Value, at_least, breaks, element, element_at, elements, exactly, h_node, home_agents, integer, length_mode, multiple, natural, node_of, not_text, nothing, numbers, numbers_of, one_or_more, plain, raw, read, read_option, rule_for, stopped, strict, truth, unclear, unknown, value_of, valued, width_of, wrong_length}
 use Rattle.rfc.specs.Writing.{answer_to, close, encode, next_part, parts_of, room_after, size_in_parts, write_bytes, write_slice}
 use Rattle.rfc.specs.Typed.{Apart, Below, Empty, Proper, Seconds, encode_kind, odd_pairs, other_kind, part_size, write_value}
 use Rattle.rfc.specs.Routes.{route_bytes, significant, too_wide, write_routes}
 use Rattle.rfc.specs.Lists.{Bytes, Ending, Opt, Valid, encode_all, finished, listing, write_all}
-use Rattle.rfc.specs.Portions.{Portion, ahead, behind_code, cut_field, cutPart, goes_on, is_cut, joined_value, next, next_portion, no_more, of_code, parts_in, portion, portions, portions_in}
+use Rattle.rfc.specs.Portions.{Portion, ahead, behind_code, cut_field, cut_part, goes_on, is_cut, joined_value, next, next_portion, no_more, of_code, parts_in, portion, portions, portions_in}
 use Rattle.rfc.specs.Portions.{whole}
 use Rattle.rfc.specs.Aggregate.{OptionFields, aggregate, behind_last, codes_of, entries, entry, field_checks, fields_of, file_read, find, names_file, names_sname, option_from, option_of}
 use Rattle.rfc.specs.Aggregate.{options_from, options_read, overload, overload_of, overloads, read_named, sname_read, unclear_overload}
@@ -110,15 +110,15 @@ OfHeader =
 
 abbrev pub OfWalk : Type 0
 OfWalk =
-    (walk 0 (12 ∷ []) ≡ stop cutLength 1)
+    (walk 0 (12 ∷ []) ≡ stop cut_length 1)
     × (walk 0 (12 ∷ 1 ∷ 65 ∷ 255 ∷ []) ≡ option 12 (65 ∷ []) 1 3)
     × (extend (65 ∷ []) (run 1 (66 ∷ [])) ≡ run 2 (65 ∷ 66 ∷ []))
     × (further 12 (12 ∷ 1 ∷ 66 ∷ 255 ∷ []) ≡ run 1 (66 ∷ []))
     × (further 12 (0 ∷ 12 ∷ 1 ∷ 66 ∷ []) ≡ run 0 [])
     × (joined 12 (65 ∷ []) 3 (run 1 (66 ∷ [])) ≡ option 12 (65 ∷ 66 ∷ []) 2 6)
-    × (joined 12 (65 ∷ []) 3 cut ≡ stop cutContinuation 3)
-    × (behind 12 1 [] ≡ stop cutLength 1)
-    × (behind 12 1 (5 ∷ 65 ∷ []) ≡ stop cutValue 2)
+    × (joined 12 (65 ∷ []) 3 cut ≡ stop cut_continuation 3)
+    × (behind 12 1 [] ≡ stop cut_length 1)
+    × (behind 12 1 (5 ∷ 65 ∷ []) ≡ stop cut_value 2)
     × (walk 0 (0 ∷ 255 ∷ []) ≡ stop end 2)
     × (walk 2 [] ≡ stop out 2)
     × (room_for 1 (option 12 (65 ∷ 66 ∷ []) 2 6) ≡ needs 2)
@@ -154,11 +154,11 @@ OfValues =
     × (value_of 9 (255 ∷ 255 ∷ 199 ∷ 192 ∷ []) ≡ value 9 (integer (negsuc 14399)))
     × (breaks multiple 4 6 ≡ true)
     × (breaks at_least 4 6 ≡ false)
-    × (breaks oneOrMore 4 0 ≡ true)
+    × (breaks one_or_more 4 0 ≡ true)
     × (rule_for plain 8 ≡ at_least)
     × (rule_for strict 8 ≡ exactly)
     × (rule_for plain 2 ≡ multiple)
-    × (rule_for strict 2 ≡ oneOrMore)
+    × (rule_for strict 2 ≡ one_or_more)
     × (wrong_length plain 7 (0 ∷ 68 ∷ 1 ∷ []) ≡ true)
     × (wrong_length strict 7 [] ≡ true)
     × (length_mode strict 3 ≡ strict)
@@ -175,7 +175,7 @@ OfValues =
     × (read strict 61 [] ≡ given (value 0 (raw [])))
     × (elements (value_of 3 (10 ∷ 0 ∷ 0 ∷ 1 ∷ 10 ∷ 0 ∷ 0 ∷ 2 ∷ [])) ≡ (0x0a000001 ∷ 0x0a000002 ∷ []) ∷ [])
     × (element 1 (read plain 3 (10 ∷ 0 ∷ 0 ∷ 1 ∷ [])) ≡ refused 4)
-    × (node_of 8 ≡ hNode)
+    × (node_of 8 ≡ h_node)
     × (node_of 3 ≡ unknown 3)
     × (read_option plain (given (stop end 6)) ≡ given (stopped end 6))
     × (read_option strict (step (3 ∷ 0 ∷ 3 ∷ 0 ∷ []) 0 0) ≡ refused 10)
@@ -240,8 +240,8 @@ around = twelve ∷ portion 1 [] 245 ∷ again ∷ []
 abbrev pub OfPortions : Type 0
 OfPortions =
     (next_portion 0 (12 ∷ 1 ∷ 65 ∷ 255 ∷ []) ≡ next (portion 12 (65 ∷ []) 3) (255 ∷ []))
-    × (behind_code 12 1 [] ≡ cutPart)
-    × (behind_code 12 1 (5 ∷ 65 ∷ []) ≡ cutPart)
+    × (behind_code 12 1 [] ≡ cut_part)
+    × (behind_code 12 1 (5 ∷ 65 ∷ []) ≡ cut_part)
     × (next_portion 0 (0 ∷ 12 ∷ 0 ∷ []) ≡ next (portion 12 [] 3) [])
     × (next_portion 0 (255 ∷ 12 ∷ []) ≡ no_more)
     × (next_portion 0 [] ≡ no_more)
@@ -309,7 +309,7 @@ OfAggregate =
     × (options_from around ≡ option 12 (65 ∷ 66 ∷ []) 2 248 ∷ option 1 [] 1 245 ∷ [])
     × (entries sample ≡ given (option 53 (5 ∷ []) 1 243 ∷ []))
     × (values_in 12 (abc ∷ record { code = 1; value = 7 ∷ [] } ∷ abc ∷ []) ≡ 97 ∷ 98 ∷ 99 ∷ 97 ∷ 98 ∷ 99 ∷ [])
-    × (EndsCut (given (stop cutContinuation 3)))
+    × (EndsCut (given (stop cut_continuation 3)))
     × (EndsWhole (given (stop end 6)))
 
 -- messages that a stream carries: one of the least length, and one of 256 bytes

@@ -13,7 +13,7 @@ use lib.Dec.{eqb, leb}
 use native.Mathlib.Decide.{dec_le, ℕ_discrete}
 use borrow.Author.Tests.{eq-eqb, ne_eqb, le-leb, lt-leb}
 use Rattle.rfc.specs.Numbers.{pad_code, end_code}
-use Rattle.rfc.specs.Walk.{Stop, out, end, cutLength, cutValue, cutContinuation, Found, stop, option, Run, cut, run, extend, further_in, further, joined, behind, walk}
+use Rattle.rfc.specs.Walk.{Stop, out, end, cut_length, cut_value, cut_continuation, Found, stop, option, Run, cut, run, extend, further_in, further, joined, behind, walk}
 use Rattle.rfc.specs.Lists.{Bytes}
 use Rattle.rfc.proofs.Bytes.{bytes_drop}
 use Rattle.rfc.proofs.Walk.{extend_run, further_more}
@@ -61,12 +61,12 @@ pub data Halts : Stop → List ℕ → ℕ → Type 0 where
   -- an End
   at-end : {rest : List ℕ} → Halts end (end_code ∷ rest) 1
   -- a code, and no length byte
-  no_length : {code : ℕ} → Halts cutLength (code ∷ []) 1
+  no_length : {code : ℕ} → Halts cut_length (code ∷ []) 1
   -- a length beyond what is left
-  no_value : {code n : ℕ} {rest : List ℕ} → length rest < n → Halts cutValue (code ∷ n ∷ rest) 2
+  no_value : {code n : ℕ} {rest : List ℕ} → length rest < n → Halts cut_value (code ∷ n ∷ rest) 2
   -- a complete part, and behind it one that is cut
   no_further : {code n : ℕ} {rest : List ℕ} → n ≤ length rest → further code (drop n rest) ≡ cut
-      → Halts cutContinuation (code ∷ n ∷ rest) (2 + n)
+      → Halts cut_continuation (code ∷ n ∷ rest) (2 + n)
 
 -- what the walk finds from the place `at` on: a stop has its reason at a place, and an option is the parts of its code from a place on
 abbrev pub Finds : ℕ → List ℕ → Found → Type 0

@@ -12,7 +12,7 @@ use lib.Seq.{drop-drop, length-take-le}
 use lib.Dec.{eqb, leb}
 use borrow.Author.Tests.{eqb-true, eqb-false, leb-true, leb-false}
 use Rattle.rfc.specs.Numbers.{given, pad_code, end_code, most_bytes}
-use Rattle.rfc.specs.Walk.{Stop, end, cutValue, Found, stop, option, Run, cut, run, extend, further_in, further, joined, behind, walk, room_for}
+use Rattle.rfc.specs.Walk.{Stop, end, cut_value, Found, stop, option, Run, cut, run, extend, further_in, further, joined, behind, walk, room_for}
 use Rattle.rfc.specs.Lists.{Listing, onward, list_in, listing}
 use Rattle.rfc.specs.Portions.{portion, Next, Portions, cut_field, whole, ahead, goes_on, portions, of_code, joined_value}
 use Rattle.rfc.specs.Modes.{values_in, EndsCut, at_length, at_value, at_continuation, EndsWhole, at_out, at_end}
@@ -115,7 +115,7 @@ sees at p (b ∷ rest) = go (eqb b pad_code) refl (eqb b end_code) refl (sees (a
     code (n ∷ l) z e = by (leb n (length l)) refl (further b (drop n l)) (reads b z e (at + 2 + n) (drop n l))
       where
         by : (t : Bool) → leb n (length l) ≡ t → (r : Run) → Reads b (at + 2 + n) (drop n l) r
-            → Sees at p (b ∷ n ∷ l) (cond t (joined b (take n l) (p + 1 + 1 + n) r) (stop cutValue (p + 1 + 1)))
+            → Sees at p (b ∷ n ∷ l) (cond t (joined b (take n l) (p + 1 + 1 + n) r) (stop cut_value (p + 1 + 1)))
         by true w cut x = a_cut (reads_more b z e at n l cut (leb-true n (length l) w) x) (at_continuation (p + 1 + 1 + n))
         by true w (run m vs) x =
             let h : n ≤ length l = leb-true n (length l) w in

@@ -10,7 +10,7 @@ use lib.ListN.{length, take, drop, get_or, length-drop, length-append, drop_of_l
 use lib.Seq.{drop-cons, drop-drop, take-append_seam, drop-append_seam, length-take-le, take-length}
 use native.Mathlib.Decide.{dec_le, dec_lt, ℕ_discrete}
 use Rattle.rfc.specs.Numbers.{given, pad_code, end_code, most_bytes}
-use Rattle.rfc.specs.Walk.{Stop, out, end, cutLength, cutValue, Found, stop, option, Run, cut, run, extend, further, joined, walk, room_for, look, step}
+use Rattle.rfc.specs.Walk.{Stop, out, end, cut_length, cut_value, Found, stop, option, Run, cut, run, extend, further, joined, walk, room_for, look, step}
 use Rattle.rfc.specs.Lists.{Bytes}
 use Rattle.rfc.proofs.Bytes.{byte_below, bytes_drop, bytes_take, bytes_joined}
 use Rattle.rfc.proofs.Finding.{lies, Halts, at-end, Finds, finds}
@@ -46,12 +46,12 @@ module _ (area : List ℕ) (i : ℕ) where
   end_at h e = ap (walk i) (drop_one h) ∙ walk_end i _ _ e
 
   module _ (h : i < length area) (z : get_or area i 0 ≡ pad_code → ⊥) (e : get_or area i 0 ≡ end_code → ⊥) where
-    pub cut_length_at : length area - i < 2 → walk i (drop i area) ≡ stop cutLength (i + 1)
+    pub cut_length_at : length area - i < 2 → walk i (drop i area) ≡ stop cut_length (i + 1)
     cut_length_at g = ap (walk i) (drop_last h g) ∙ walk_code i _ _ z e ∙ behind_none _ _
 
-    pub cut_value_at : i + 2 ≤ length area → length area - (i + 2) < get_or area (i + 1) 0 → walk i (drop i area) ≡ stop cutValue (i + 2)
+    pub cut_value_at : i + 2 ≤ length area → length area - (i + 2) < get_or area (i + 1) 0 → walk i (drop i area) ≡ stop cut_value (i + 2)
     cut_value_at g k =
-        ap (walk i) (drop_two g) ∙ walk_code i _ _ z e ∙ behind_short _ _ _ _ (omega (arith, rest_length)) ∙ ap (stop cutValue) two
+        ap (walk i) (drop_two g) ∙ walk_code i _ _ z e ∙ behind_short _ _ _ _ (omega (arith, rest_length)) ∙ ap (stop cut_value) two
 
     pub whole_at : i + 2 + get_or area (i + 1) 0 ≤ length area
         → walk i (drop i area)

@@ -12,7 +12,7 @@ use lib.Seq.{drop-drop, length-take-le}
 use lib.Dec.{eqb, leb}
 use borrow.Author.Tests.{eq-eqb, ne_eqb, eqb-false, le-leb, lt-leb, leb-true}
 use Rattle.rfc.specs.Numbers.{pad_code, end_code}
-use Rattle.rfc.specs.Portions.{Portion, portion, Next, no_more, cutPart, next, behind_code, next_portion, Portions, cut_field, whole, ahead, goes_on, portions_in, portions, is_cut, parts_in}
+use Rattle.rfc.specs.Portions.{Portion, portion, Next, no_more, cut_part, next, behind_code, next_portion, Portions, cut_field, whole, ahead, goes_on, portions_in, portions, is_cut, parts_in}
 use Rattle.rfc.specs.Lists.{Bytes}
 use Rattle.rfc.proofs.Places.{drop_one, drop_two, drop_last, rest_length}
 
@@ -34,11 +34,11 @@ module _ (at b : ℕ) (z : b ≡ pad_code → ⊥) (e : b ≡ end_code → ⊥) 
   unfolding next_portion
   next_code rest = simp (ne_eqb b pad_code z, ne_eqb b end_code e)
 
-  pub next_no_length : next_portion at (b ∷ []) ≡ cutPart
+  pub next_no_length : next_portion at (b ∷ []) ≡ cut_part
   unfolding behind_code
   next_no_length = next_code []
 
-  pub next_no_value : (n : ℕ) (rest : List ℕ) → length rest < n → next_portion at (b ∷ n ∷ rest) ≡ cutPart
+  pub next_no_value : (n : ℕ) (rest : List ℕ) → length rest < n → next_portion at (b ∷ n ∷ rest) ≡ cut_part
   unfolding behind_code
   next_no_value n rest h = next_code (n ∷ rest) ∙ rw (lt-leb n (length rest) h) refl
 
@@ -61,10 +61,10 @@ module _ (bytes : List ℕ) (i : ℕ) where
   end_at h e = ap (next_portion i) (drop_one bytes i h) ∙ next_end i _ _ e
 
   module _ (z : get_or bytes i 0 ≡ pad_code → ⊥) (e : get_or bytes i 0 ≡ end_code → ⊥) where
-    pub no_length_at : i < length bytes → length bytes - i < 2 → next_portion i (drop i bytes) ≡ cutPart
+    pub no_length_at : i < length bytes → length bytes - i < 2 → next_portion i (drop i bytes) ≡ cut_part
     no_length_at h g = ap (next_portion i) (drop_last bytes i h g) ∙ next_no_length i _ z e
 
-    pub no_value_at : i + 2 ≤ length bytes → length bytes - (i + 2) < get_or bytes (i + 1) 0 → next_portion i (drop i bytes) ≡ cutPart
+    pub no_value_at : i + 2 ≤ length bytes → length bytes - (i + 2) < get_or bytes (i + 1) 0 → next_portion i (drop i bytes) ≡ cut_part
     no_value_at g k = ap (next_portion i) (drop_two bytes i g) ∙ next_no_value i _ z e _ _ (omega (arith, rest_length bytes i))
 
     pub whole_at : i + 2 + get_or bytes (i + 1) 0 ≤ length bytes
@@ -91,12 +91,12 @@ pub record Stands (at : ℕ) (bytes : List ℕ) (p : Portion) (rest : List ℕ) 
 
 abbrev StandsIn : ℕ → List ℕ → Next → Type 0
 StandsIn at bytes no_more = Unit {0}
-StandsIn at bytes cutPart = Unit {0}
+StandsIn at bytes cut_part = Unit {0}
 StandsIn at bytes (next p rest) = Stands at bytes p rest
 
 behind_one : (at b : ℕ) (bytes : List ℕ) (x : Next) → StandsIn (at + 1) bytes x → StandsIn at (b ∷ bytes) x
 behind_one at b bytes no_more s = tt
-behind_one at b bytes cutPart s = tt
+behind_one at b bytes cut_part s = tt
 behind_one at b bytes (next p rest) s =
     let m : suc s.skip - length p.value ≡ suc (s.skip - length p.value) = omega (arith, s.room) in
     record {
@@ -121,7 +121,7 @@ stands_in at (b ∷ bytes) = go (eqb b pad_code) refl (eqb b end_code) refl (sta
     part (n ∷ l) z e = by (leb n (length l)) refl
       where
         by : (t : Bool) → leb n (length l) ≡ t
-            → StandsIn at (b ∷ n ∷ l) (cond t (next (portion b (take n l) (at + 1 + 1 + n)) (drop n l)) cutPart)
+            → StandsIn at (b ∷ n ∷ l) (cond t (next (portion b (take n l) (at + 1 + 1 + n)) (drop n l)) cut_part)
         by true w =
             let h : n ≤ length l = leb-true n (length l) w in
             let len : length (take n l) ≡ n = length-take-le n l h in
@@ -168,7 +168,7 @@ enough (suc k) (suc m) at rest h g = go (next_portion at rest) (stands_in at res
         → ((to : ℕ) (l : List ℕ) → length l ≤ k → length l ≤ m → portions_in k to l ≡ portions_in m to l)
         → goes_on x (portions_in k) ≡ goes_on x (portions_in m)
     go no_more s r = refl
-    go cutPart s r = refl
+    go cut_part s r = refl
     go (next p l) s r = ap (ahead p) (r p.place l (omega (arith, fewer s)) (omega (arith, fewer s)))
 
 -- a field is what stands first in it, and what is read behind that
@@ -179,7 +179,7 @@ goes-on at (b ∷ rest) = go (next_portion at (b ∷ rest)) (stands_in at (b ∷
   where
     go : (x : Next) → StandsIn at (b ∷ rest) x → goes_on x (portions_in (length rest)) ≡ goes_on x portions
     go no_more s = refl
-    go cutPart s = refl
+    go cut_part s = refl
     go (next p l) s = ap (ahead p) (enough (length rest) (length l) p.place l (omega (arith, fewer s)) (le_refl _))
 
 -- so is it by what stands first
@@ -187,7 +187,7 @@ pub ended : (at : ℕ) (field : List ℕ) → next_portion at field ≡ no_more 
 unfolding goes_on
 ended at field e = goes-on at field ∙ ap (λ (x : Next). goes_on x portions) e
 
-pub is-cut : (at : ℕ) (field : List ℕ) → next_portion at field ≡ cutPart → portions at field ≡ cut_field
+pub is-cut : (at : ℕ) (field : List ℕ) → next_portion at field ≡ cut_part → portions at field ≡ cut_field
 unfolding goes_on
 is-cut at field e = goes-on at field ∙ ap (λ (x : Next). goes_on x portions) e
 

@@ -19,7 +19,7 @@ use Rattle.facts.proofs.BigEndian.{length_digits, number_digits}
 use Rattle.facts.proofs.Over.{length_over, from_over, over_over}
 use Rattle.rfc.specs.Numbers.{given, most_bytes, most_value, end_code, no_code}
 use Rattle.rfc.specs.Kinds.{kinds, kind_of, size_of, sizes}
-use Rattle.rfc.specs.Values.{Content, raw, natural, integer, truth, numbers, nothing, Value, width_of, value_of, Rule, exactly, multiple, oneOrMore, breaks, Mode, plain, strict, rules, rule_for, wrong_length, not_text, unclear, read, valued, read_option}
+use Rattle.rfc.specs.Values.{Content, raw, natural, integer, truth, numbers, nothing, Value, width_of, value_of, Rule, exactly, multiple, one_or_more, breaks, Mode, plain, strict, rules, rule_for, wrong_length, not_text, unclear, read, valued, read_option}
 use Rattle.rfc.specs.Walk.{run, further, walk, option, step}
 use Rattle.rfc.specs.Writing.{parts_of, encode, answer_to, room_after, into_room, close}
 use Rattle.rfc.specs.Typed.{digits_of, bytes_in, bytes_of, part_size, encode_kind, odd_pairs, write_value, Apart, Below, Seconds, Proper, bytes, address, addresses, pairs, byte, yes_no, u16, u16s, u32, i32, text, codes, node_type, message_type, three_bytes, flag}
@@ -60,16 +60,16 @@ one kind make rule clear holds n h =
     ∙ ap (λ (k : ℕ). of.value kind (make k)) (number_digits (size_of kind) n h))
 
 -- some elements, all of them whole
-one_or_more : (size : ℕ) (v : List ℕ) → 0 < length v → length v % size ≡ 0 → breaks oneOrMore size (length v) ≡ false
-one_or_more size v some rest = some_alike size (length v) (λ z. omega arith) ∙ ap not (eq-eqb _ 0 rest)
+one-or-more : (size : ℕ) (v : List ℕ) → 0 < length v → length v % size ≡ 0 → breaks one_or_more size (length v) ≡ false
+one-or-more size v some rest = some_alike size (length v) (λ z. omega arith) ∙ ap not (eq-eqb _ 0 rest)
 
 -- a kind that is a list
-many : {kind width n : ℕ} → of.Listed kind width n → rule_for strict kind ≡ oneOrMore → ((v : List ℕ) → unclear strict kind v ≡ false)
+many : {kind width n : ℕ} → of.Listed kind width n → rule_for strict kind ≡ one_or_more → ((v : List ℕ) → unclear strict kind v ≡ false)
     → (l : List ℕ) → Below (256 ^ width) l → 0 < length (digits_of width l) → length (digits_of width l) % size_of kind ≡ 0
     → Reads kind (digits_of width l) (numbers l)
 many {kind} {width} k rule clear l b some rest =
     let v : List ℕ = digits_of width l in
-    taken kind v (numbers l) oneOrMore rule (one_or_more _ v some rest) (clear v)
+    taken kind v (numbers l) one_or_more rule (one-or-more _ v some rest) (clear v)
     (of.listed_value v k ∙ ap (λ (m : List ℕ). of.value kind (numbers m)) (numbers_back width (listed_size k).1 l b))
 
 -- a value's bytes read as it; of pairs, where they are whole ones
@@ -91,7 +91,7 @@ reads kind content (i32 z h) some even =
     let n : ℕ = unsigned z in
     subst (λ (y : ℤ). Reads 9 (digits 4 n) (integer y)) (seconds_signed z h)
     (one 9 (λ (k : ℕ). integer (signed k)) refl (λ v. refl) (λ v. of.scalar_value v of.i32) n (seconds_below z h))
-reads kind content (text v) some even = taken 10 v (raw v) oneOrMore refl (one_or_more _ v (some (omega arith)) (mod-one (length v))) refl (of.text_value v)
+reads kind content (text v) some even = taken 10 v (raw v) one_or_more refl (one-or-more _ v (some (omega arith)) (mod-one (length v))) refl (of.text_value v)
 reads kind content (codes l b) some even = many of.codes refl (λ v. refl) l b (some (omega arith)) (digits_whole 1 l)
 reads kind content (node_type n h) some even = one 12 natural refl (λ v. refl) (λ v. of.scalar_value v of.node_type) n h
 reads kind content (message_type n h) some even = one 13 natural refl (λ v. refl) (λ v. of.scalar_value v of.message_type) n h

@@ -16,7 +16,7 @@ use Rattle.rfc.specs.Numbers.{Answer, given, refused, needs, most_bytes, and_the
 use Rattle.rfc.specs.Walk.{Found, Stop, stop, option}
 use Rattle.rfc.specs.Kinds.{kind_of, size_of, sizes}
 use Rattle.rfc.specs.Text.{utf8}
-use Rattle.rfc.specs.Values.{Value, value_of, Rule, exactly, at_least, multiple, oneOrMore, breaks, Mode, plain, strict, rules, rule_for, wrong_length, home_agents, length_mode, not_text, unclear, read_checks, read, stopped, valued, read_found, read_option}
+use Rattle.rfc.specs.Values.{Value, value_of, Rule, exactly, at_least, multiple, one_or_more, breaks, Mode, plain, strict, rules, rule_for, wrong_length, home_agents, length_mode, not_text, unclear, read_checks, read, stopped, valued, read_found, read_option}
 use Rattle.rfc.proofs.Codes.{size_some}
 use Rattle.rfc.proofs.Numbers.{here, later, refuses, Clear, done, next, clears, passes, long, not_long, given_no, refused_stands, needs_stands}
 
@@ -30,7 +30,7 @@ length_by mode kind v rule e = ap (λ (r : Rule). breaks r (size_of kind) (lengt
 pub none_multiple : (size : ℕ) → breaks multiple size 0 ≡ false
 none_multiple size = ap not (eq-eqb _ 0 (zero-mod size))
 
-pub some_alike : (size len : ℕ) → (len ≡ 0 → ⊥) → breaks oneOrMore size len ≡ breaks multiple size len
+pub some_alike : (size len : ℕ) → (len ≡ 0 → ⊥) → breaks one_or_more size len ≡ breaks multiple size len
 some_alike size len some = rw (ne_eqb len 0 some)
 
 -- where a length is neither exact nor a least one, the size of an element is not 0: only the flag's is
@@ -56,7 +56,7 @@ strict_length kind v =
     least : Accepts exactly at_least
     least e = let l = eqb-true (length v) (size_of kind) (not-false _ e) in le-ltb (length v) (size_of kind) (omega arith)
 
-    more : Accepts oneOrMore multiple
+    more : Accepts one_or_more multiple
     more e = ((or-eq-false-eq-eq-false-and-eq-false (eqb (length v) 0) _).0 e).1
 
 -- the mode by whose rule a code's length is judged: plain for the home agents, for other codes the one asked for

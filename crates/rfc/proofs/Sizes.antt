@@ -7,7 +7,7 @@ use mathlib.Core.List.{List, [], ◌∷◌, ◌++◌, append-nil, append_assoc, 
 use mathlib.Core.Bool.{Bool, true, false, cond}
 use lib.ListN.{length, length-append, length-drop}
 use lib.Dec.{eqb}
-use Rattle.rfc.specs.Portions.{Portion, Next, no_more, cutPart, next, next_portion, Portions, whole, ahead, goes_on, portions}
+use Rattle.rfc.specs.Portions.{Portion, Next, no_more, cut_part, next, next_portion, Portions, whole, ahead, goes_on, portions}
 use Rattle.rfc.specs.Portions.{of_code, joined_value}
 use Rattle.rfc.proofs.Portions.{Stands, stands, goes-on, ahead_is}
 
@@ -35,7 +35,7 @@ begins at field p ps e = go (next_portion at field) refl (sym (goes-on at field)
 
     go : (x : Next) → next_portion at field ≡ x → goes_on x portions ≡ whole (p ∷ ps) → Begins at field p ps
     go no_more n w = absurd (let z : ◌≡◌ {A = ℕ} 0 1 = cc in omega arith)
-    go cutPart n w = absurd (let z : ◌≡◌ {A = ℕ} 0 1 = cc in omega arith)
+    go cut_part n w = absurd (let z : ◌≡◌ {A = ℕ} 0 1 = cc in omega arith)
     go (next q rest) n w = behind q rest n (portions q.place rest) refl w
 
 -- values joined, one by one

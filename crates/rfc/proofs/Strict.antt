@@ -9,7 +9,7 @@ use lib.ListN.{length}
 use Rattle.facts.specs.Ranges.{lookup, within}
 use Rattle.rfc.specs.Numbers.{given, refused, no_code}
 use Rattle.rfc.specs.Kinds.{kind_of}
-use Rattle.rfc.specs.Values.{value_of, multiple, oneOrMore, Mode, plain, strict, rules, rule_for, wrong_length, home_agents, length_mode, ListOrText, addresses, pairs, u16s, text, codes, unclear, read_checks, read}
+use Rattle.rfc.specs.Values.{value_of, multiple, one_or_more, Mode, plain, strict, rules, rule_for, wrong_length, home_agents, length_mode, ListOrText, addresses, pairs, u16s, text, codes, unclear, read_checks, read}
 use Rattle.rfc.proofs.Alike.{none, both, alike}
 use Rattle.rfc.proofs.Codes.{pad_raw, end_raw}
 use Rattle.rfc.proofs.Numbers.{a_code}
@@ -17,7 +17,7 @@ use Rattle.rfc.proofs.Readings.{length_by, some_alike, of_others, either_mode, o
 
 -- how a kind of lists or texts is judged: by one element or more in strict mode, by any in plain; and which kinds it is not
 record Judged (kind : ℕ) : Type 0 where
-  strictly : rule_for strict kind ≡ oneOrMore
+  strictly : rule_for strict kind ≡ one_or_more
   plainly : rule_for plain kind ≡ multiple
   not_raw : kind ≡ 0 → ⊥
   not_yes_no : kind ≡ 5 → ⊥
@@ -35,7 +35,7 @@ pub empty_refused : (code : ℕ) → ListOrText (kind_of code) → (code ≡ hom
 empty_refused code k other =
     read_10 strict code [] (omega arith) some refl
     (ap (λ (m : Mode). wrong_length m (kind_of code) []) (sym (of_others strict code other))
-    ∙ sym (length_by strict _ [] oneOrMore (judged k).strictly))
+    ∙ sym (length_by strict _ [] one_or_more (judged k).strictly))
   where
     some : no_code code ≡ false
     some = a_code code (λ e. (judged k).not_raw (ap kind_of e ∙ pad_raw)) (λ e. (judged k).not_raw (ap kind_of e ∙ end_raw))
@@ -55,7 +55,7 @@ module _ (code : ℕ) (v : List ℕ) where
   pub else_as_plain : ListOrText (kind_of code) → 0 < length v → read strict code v ≡ read plain code v
   else_as_plain k some =
       read_alike
-      (sym (length_by strict _ v oneOrMore (judged k).strictly)
+      (sym (length_by strict _ v one_or_more (judged k).strictly)
       ∙ some_alike _ (length v) (λ z. omega arith)
       ∙ length_by plain _ v multiple (judged k).plainly)
       (judged k).not_yes_no

@@ -12,7 +12,7 @@ use Rattle.facts.specs.BigEndian.{number, signed}
 use Rattle.facts.specs.Ranges.{lookup, within}
 use Rattle.facts.proofs.Ranges.{outside}
 use Rattle.rfc.specs.Kinds.{size_of, sizes}
-use Rattle.rfc.specs.Values.{Content, raw, natural, integer, truth, numbers, nothing, Value, numbers_of, width_of, contents, value_of, plain, rules, rule_for, wrong_length, elements, node_of, b_node, pNode, mNode, hNode, unknown}
+use Rattle.rfc.specs.Values.{Content, raw, natural, integer, truth, numbers, nothing, Value, numbers_of, width_of, contents, value_of, plain, rules, rule_for, wrong_length, elements, node_of, b_node, p_node, m_node, h_node, unknown}
 
 -- a value by its kind and what it holds
 abbrev pub value : ℕ → Content → Value
@@ -117,7 +117,7 @@ module _ (v : List ℕ) where
   listed_value codes = refl
 
 -- the node types by their bytes
-pub named : (node_of 1 ≡ b_node) × (node_of 2 ≡ pNode) × (node_of 4 ≡ mNode) × (node_of 8 ≡ hNode)
+pub named : (node_of 1 ≡ b_node) × (node_of 2 ≡ p_node) × (node_of 4 ≡ m_node) × (node_of 8 ≡ h_node)
 unfolding node_of lookup within
 named = (refl, refl, refl, refl)
 

@@ -16,14 +16,14 @@ portion code value place = record { code = code; value = value; place = place }
 
 -- what stands first from a place on: no part, a part that is cut, or a whole part and the bytes behind it
 pub data Next : Type 0 where
-  no_more cutPart : Next
+  no_more cut_part : Next
   next : Portion → List ℕ → Next
 
 -- behind a code: its length byte is at the place `at` (RFC 2132, section 2)
 unfoldable pub behind_code : ℕ → ℕ → List ℕ → Next
-behind_code code at [] = cutPart
+behind_code code at [] = cut_part
 behind_code code at (n ∷ rest) =
-    cond (leb n (length rest)) (next (portion code (take n rest) (at + 1 + n)) (drop n rest)) cutPart
+    cond (leb n (length rest)) (next (portion code (take n rest) (at + 1 + n)) (drop n rest)) cut_part
 
 -- from the place `at`, with the bytes from there on: Pads are skipped (RFC 2132, section 3.1), and "each field ends at its End or its last
 -- byte" (ticket 1)
@@ -45,7 +45,7 @@ ahead p (whole ps) = whole (p ∷ ps)
 -- what stands first, and what is read behind it
 unfoldable pub goes_on : Next → (ℕ → List ℕ → Portions) → Portions
 goes_on no_more more = whole []
-goes_on cutPart more = cut_field
+goes_on cut_part more = cut_field
 goes_on (next p rest) more = ahead p (more p.place rest)
 
 -- part after part from the place `at` on, no more than so many

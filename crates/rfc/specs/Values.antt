@@ -56,13 +56,13 @@ value_of kind v =
 
 -- the rule for a value's length, by the size of its kind's element: exactly it, at least it, a multiple of it (also 0), or one element or more
 pub data Rule : Type 0 where
-  exactly at_least multiple oneOrMore : Rule
+  exactly at_least multiple one_or_more : Rule
 
 abbrev pub breaks : Rule → ℕ → ℕ → Bool
 breaks exactly size len = not (eqb len size)
 breaks at_least size len = ltb len size
 breaks multiple size len = not (eqb (len % size) 0)
-breaks oneOrMore size len = eqb len 0 || not (eqb (len % size) 0)
+breaks one_or_more size len = eqb len 0 || not (eqb (len % size) 0)
 
 -- plain reading, as the crate has it, or strict
 pub data Mode : Type 0 where
@@ -83,11 +83,11 @@ rules plain =
     ∷ []
 rules strict =
     row 1 1 exactly
-    ∷ row 2 3 oneOrMore
+    ∷ row 2 3 one_or_more
     ∷ row 4 6 exactly
-    ∷ row 7 7 oneOrMore
+    ∷ row 7 7 one_or_more
     ∷ row 8 9 exactly
-    ∷ row 10 11 oneOrMore
+    ∷ row 10 11 one_or_more
     ∷ row 12 15 exactly
     ∷ []
 
@@ -167,11 +167,11 @@ element index reading = and_then reading (element_at index)
 
 -- the node types by their byte (RFC 2132, section 8.7)
 pub data Node : Type 0 where
-  b_node pNode mNode hNode : Node
+  b_node p_node m_node h_node : Node
   unknown : ℕ → Node
 
 unfoldable pub node_of : ℕ → Node
-node_of byte = lookup (unknown byte) (row 1 1 b_node ∷ row 2 2 pNode ∷ row 4 4 mNode ∷ row 8 8 hNode ∷ []) byte
+node_of byte = lookup (unknown byte) (row 1 1 b_node ∷ row 2 2 p_node ∷ row 4 4 m_node ∷ row 8 8 h_node ∷ []) byte
 
 -- a whole option, read: a stop, or the option's code, its value, and the place behind it
 pub data Whole : Type 0 where

@@ -7,7 +7,7 @@ use Rattle.rfc.specs.Numbers.{Answer, given, refused, needs, Check, check, check
 
 -- the five stops (document 01)
 pub data Stop : Type 0 where
-  out end cutLength cutValue cutContinuation : Stop
+  out end cut_length cut_value cut_continuation : Stop
 
 -- what a call finds: a stop and the place behind it (document 01); or an option: its code, its values joined, how many parts it has, and
 -- the place behind the last
@@ -40,14 +40,14 @@ further code rest = further_in (length rest) code rest
 
 -- the first part is complete, has the value v and ends at the place `at`; the values are joined in their order (RFC 3396, section 7)
 unfoldable pub joined : ℕ → List ℕ → ℕ → Run → Found
-joined code v at cut = stop cutContinuation at
+joined code v at cut = stop cut_continuation at
 joined code v at (run n vs) = option code (v ++ vs) (n + 1) (at + (2 * n + length vs))
 
 -- behind a code: its length byte is at the place `at` (RFC 2132, section 2)
 unfoldable pub behind : ℕ → ℕ → List ℕ → Found
-behind code at [] = stop cutLength at
+behind code at [] = stop cut_length at
 behind code at (n ∷ rest) =
-    cond (leb n (length rest)) (joined code (take n rest) (at + 1 + n) (further code (drop n rest))) (stop cutValue (at + 1))
+    cond (leb n (length rest)) (joined code (take n rest) (at + 1 + n) (further code (drop n rest))) (stop cut_value (at + 1))
 
 -- from the place `at`, with the bytes from there on: Pads are skipped, and End stops (RFC 2132, sections 3.1 and 3.2)
 unfoldable pub walk : ℕ → List ℕ → Found

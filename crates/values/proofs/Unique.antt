@@ -29,9 +29,9 @@ use Rattle.values.proofs.byte_of.Reads as byte_of
 -- back from what is said to who said it: a node type,
 node_back : rfc.Node → Node
 node_back rfc.b_node = B
-node_back rfc.pNode = P
-node_back rfc.mNode = M
-node_back rfc.hNode = H
+node_back rfc.p_node = P
+node_back rfc.m_node = M
+node_back rfc.h_node = H
 node_back (rfc.unknown n) = Unknown n
 
 node-back : (node : Node) → node_back (node_says node) ≡ node

@@ -4,7 +4,7 @@ use Rattle.std.specs.Prelude.{ℕ, ◌<◌, Bool, true, false, ◌≡◌, List, 
 use Rattle.rfc.specs.Numbers.{Answer, given, refused}
 use Rattle.rfc.specs.Values as rfc
 use Rattle.rfc.proofs.Values.{Listed}
-use Rattle.rfc.specs.Values.{raw, natural, integer, truth, numbers, nothing, numbers_of, Rule, exactly, at_least, multiple, oneOrMore, Mode, plain, strict, elements, node_of, value_of, wrong_length}
+use Rattle.rfc.specs.Values.{raw, natural, integer, truth, numbers, nothing, numbers_of, Rule, exactly, at_least, multiple, one_or_more, Mode, plain, strict, elements, node_of, value_of, wrong_length}
 use Rattle.values.specs.declared.answer.Node.{Node}
 use Rattle.values.specs.declared.answer.Node.TheVariants.{B, P, M, H, Unknown}
 use Rattle.values.specs.declared.answer.Value.{Value}
@@ -24,7 +24,7 @@ abbrev pub rule_number : Rule → ℕ
 rule_number multiple = 0
 rule_number exactly = 1
 rule_number at_least = 2
-rule_number oneOrMore = 3
+rule_number one_or_more = 3
 
 -- each node type's byte, and its name in the definitions
 abbrev pub byte_of : Node → ℕ
@@ -36,9 +36,9 @@ byte_of (Unknown byte) = byte
 
 abbrev pub node_says : Node → rfc.Node
 node_says B = rfc.b_node
-node_says P = rfc.pNode
-node_says M = rfc.mNode
-node_says H = rfc.hNode
+node_says P = rfc.p_node
+node_says M = rfc.m_node
+node_says H = rfc.h_node
 node_says (Unknown byte) = rfc.unknown byte
 
 -- what each case says, with the value's bytes: the document's kind, and what the value holds. (A list's count is in `count_of`)

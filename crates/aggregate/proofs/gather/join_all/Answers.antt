@@ -60,7 +60,7 @@ join_field-file-requires c =
     let one_fits : length (value_of code reads.in-options) ≤ length join =
         front_fits code reads.in-options reads.in_file two_fit in
     let in-options : InFront code reads.in-options join c.join_field-options.new.join c.join_field-options.result =
-        front_more (front_none code join) at.options message (options_at reads c.spans-of.ensures) one_fits
+        front_more (front_none code join) at.options message (options_at reads c.spans_of-at.ensures) one_fits
         c.join_field-options.ensures in
     front_joins in-options 108 (take at.file message) (file_at reads c.spans_of-at.ensures)
     two_fit
@@ -71,7 +71,7 @@ slice_bounds-join_field-end-2 c =
         c.args.message.now in
     let reads : Reads message c.args.named =
         opens message c.args.named c.requires.opened in
-    (sname_front (reads c) c.spans-of.ensures).0
+    (sname_front reads c.spans_of-at.ensures).0
 
 pub join_field-requires : goal.join_field-requires
 join_field-requires c =
@@ -92,13 +92,13 @@ join_field-requires c =
     let one_fits : length (value_of code reads.in-options) ≤ length join =
         front_fits code reads.in-options reads.in_file two_fit in
     let in-options : InFront code reads.in-options join c.join_field-options.new.join c.join_field-options.result =
-        front_more (front_none code join) at.options message (options_at reads c.spans-of.ensures) one_fits
+        front_more (front_none code join) at.options message (options_at reads c.spans_of-at.ensures) one_fits
         c.join_field-options.ensures in
     let in_file : InFront code (reads.in-options ++ reads.in_file) join c.join_field-file.new.join c.join_field-file.result =
         front_more in-options 108 (take at.file message)
-        (file_at reads c.spans-of.ensures) two_fit c.join_field-file.ensures in
-    front_joins in_file 44 (take (at c).sname (message c)) (sname_at (reads c) c.spans-of.ensures)
-    (all_fit c)
+        (file_at reads c.spans_of-at.ensures) two_fit c.join_field-file.ensures in
+    front_joins in_file 44 (take at.sname message) (sname_at reads c.spans_of-at.ensures)
+    all_fit
 
 pub returns : goal.returns
 returns c =
@@ -119,15 +119,13 @@ returns c =
     let one_fits : length (value_of code reads.in-options) ≤ length join =
         front_fits code reads.in-options reads.in_file two_fit in
     let in-options : InFront code reads.in-options join c.join_field-options.new.join c.join_field-options.result =
-        front_more (front_none code join) at.options message (options_at reads c.spans-of.ensures) one_fits
+        front_more (front_none code join) at.options message (options_at reads c.spans_of-at.ensures) one_fits
         c.join_field-options.ensures in
     let in_file : InFront code (reads.in-options ++ reads.in_file) join c.join_field-file.new.join c.join_field-file.result =
         front_more in-options 108 (take at.file message)
-        (file_at reads c.spans-of.ensures) two_fit c.join_field-file.ensures in
-    let u : tie.After-spans-of =
-        c in
-    let in_all : c.join_field.new.join ≡ over (join u) 0 (value_of (code u) (aggregate (fields_of (message u)))) =
-        (front_more in_file 44 (take (at u).sname (message u))
-        (sname_at (reads u) u.spans-of.ensures) (all_fit u) c.join_field.ensures).put
-        ∙ ap (λ (ps : List Portion). over (join u) 0 (value_of (code u) ps)) (sym (reads u).all) in
+        (file_at reads c.spans_of-at.ensures) two_fit c.join_field-file.ensures in
+    let in_all : c.join_field.new.join ≡ over join 0 (value_of code (aggregate (fields_of message))) =
+        (front_more in_file 44 (take at.sname message)
+        (sname_at reads c.spans_of-at.ensures) all_fit c.join_field.ensures).put
+        ∙ ap (λ (ps : List Portion). over join 0 (value_of code ps)) (sym reads.all) in
     in_all

@@ -11,78 +11,55 @@ pub loop-c-init : goal.loop-c-init
 loop-c-init c = joined_start c.requires
 
 pub returns-in-Ended : goal.returns-in-Ended
-returns-in-Ended c = joined_all c.loop-c.invariant _ c.portion_at.ensures c.in-Part.keys1
+returns-in-Ended c = joined_all c.loop-c.invariant _ c.portion_at.ensures c.in-Ended.is
 
 pub overflow_add-end : goal.overflow_add-end
 overflow_add-end c =
-    let told : tie.After-portion-at invariant_loop decreases_loop =
-        c in
-    let turn : tie.After-portion-at invariant_loop decreases_loop =
-        told in
-    let fits : (turn.before.loop.end + c.in-Part.n ≤ length turn.before.loop.join) × (length turn.before.loop.join ≡ length turn.before.before.before.before.args.join.now) =
+    let fits : (c.loop-c.end + c.in-Part.n ≤ length c.loop-c.join) × (length c.loop-c.join ≡ length c.args.join.now) =
         (
-      part_fits turn.before.loop.inv _ turn.portion-at.ensures c.in-Part.is c.if-c-code.true,
-      join_long turn.before.loop.inv, in
+      part_fits c.loop-c.invariant _ c.portion_at.ensures c.in-Part.is c.if-c-code.true,
+      join_long c.loop-c.invariant,
+    ) in
     omega (arith, fits)
 
 pub slice_bounds-write_slice-end : goal.slice_bounds-write_slice-end
 slice_bounds-write_slice-end c =
-    let told : tie.After-portion-at invariant_loop decreases_loop =
-        c in
-    let turn : tie.After-portion-at invariant_loop decreases_loop =
-        told in
-    let fits : (turn.before.loop.end + c.in-Part.n ≤ length turn.before.loop.join) × (length turn.before.loop.join ≡ length turn.before.before.before.before.args.join.now) =
+    let fits : (c.loop-c.end + c.in-Part.n ≤ length c.loop-c.join) × (length c.loop-c.join ≡ length c.args.join.now) =
         (
-      part_fits turn.before.loop.inv _ turn.portion-at.ensures c.in-Part.is c.if-c-code.true,
-      join_long turn.before.loop.inv, in
+      part_fits c.loop-c.invariant _ c.portion_at.ensures c.in-Part.is c.if-c-code.true,
+      join_long c.loop-c.invariant,
+    ) in
     omega (arith, fits)
 
 pub overflow_sub-place : goal.overflow_sub-place
 overflow_sub-place c =
-    let told : tie.After-portion-at invariant_loop decreases_loop =
-        c in
-    let within : (told.before.loop.at + 2 + c.in-Part.n ≤ c.in-Part.place) × (c.in-Part.place ≤ length told.before.before.before.before.args.bytes.now) =
-        part_within told.before.loop.inv _ told.portion-at.ensures c.in-Part.is in
+    let within : (c.loop-c.at + 2 + c.in-Part.n ≤ c.in-Part.place) × (c.in-Part.place ≤ length c.args.bytes.now) =
+        part_within c.loop-c.invariant _ c.portion_at.ensures c.in-Part.is in
     omega (arith, within)
 
 pub slice_bounds-write_slice-end-then-c-code : goal.slice_bounds-write_slice-end-then-c-code
 slice_bounds-write_slice-end-then-c-code c =
-    let told : tie.After-portion-at invariant_loop decreases_loop =
-        c in
-    let within : (told.before.loop.at + 2 + c.in-Part.n ≤ c.in-Part.place) × (c.in-Part.place ≤ length told.before.before.before.before.args.bytes.now) =
-        part_within told.before.loop.inv _ told.portion-at.ensures c.in-Part.is in
+    let within : (c.loop-c.at + 2 + c.in-Part.n ≤ c.in-Part.place) × (c.in-Part.place ≤ length c.args.bytes.now) =
+        part_within c.loop-c.invariant _ c.portion_at.ensures c.in-Part.is in
     omega (arith, within)
 
 pub loop-c-smaller-then-c-code : goal.loop-c-smaller-then-c-code
 loop-c-smaller-then-c-code c =
-    let told : tie.After-portion-at invariant_loop decreases_loop =
-        c in
-    let within : (told.before.loop.at + 2 + c.in-Part.n ≤ c.in-Part.place) × (c.in-Part.place ≤ length told.before.before.before.before.args.bytes.now) =
-        part_within told.before.loop.inv _ told.portion-at.ensures c.in-Part.is in
+    let within : (c.loop-c.at + 2 + c.in-Part.n ≤ c.in-Part.place) × (c.in-Part.place ≤ length c.args.bytes.now) =
+        part_within c.loop-c.invariant _ c.portion_at.ensures c.in-Part.is in
     omega (arith, within)
 
--- of the code
 pub loop-c-preserved-then-c-code : goal.loop-c-preserved-then-c-code
 loop-c-preserved-then-c-code c =
-    let told : tie.After-portion-at invariant_loop decreases_loop =
-        c in
-    let turn : tie.After-portion-at invariant_loop decreases_loop =
-        told in
-    let t = turn in
-    joined_more t.before.loop.inv _ t.portion-at.ensures c.in-Part.is c.if-c-code.true
+    joined_more c.loop-c.invariant _ c.portion_at.ensures c.in-Part.is c.if-c-code.true
     c.write_slice.ensures
 
 pub loop-c-smaller : goal.loop-c-smaller
 loop-c-smaller c =
-    let told : tie.After-portion-at invariant_loop decreases_loop =
-        c in
-    let within : (told.before.loop.at + 2 + c.in-Part.n ≤ c.in-Part.place) × (c.in-Part.place ≤ length told.before.before.before.before.args.bytes.now) =
-        part_within told.before.loop.inv _ told.portion-at.ensures c.in-Part.is in
+    let within : (c.loop-c.at + 2 + c.in-Part.n ≤ c.in-Part.place) × (c.in-Part.place ≤ length c.args.bytes.now) =
+        part_within c.loop-c.invariant _ c.portion_at.ensures c.in-Part.is in
     omega (arith, within)
 
 pub loop-c-preserved : goal.loop-c-preserved
 loop-c-preserved c =
-    let told : tie.After-portion-at invariant_loop decreases_loop =
-        c in
-    let t = told in
-    joined_other t.before.loop.inv _ t.portion-at.ensures c.in-Part.is c.if-c-code.false
+    joined_other c.loop-c.invariant _ c.portion_at.ensures c.in-Part.is c.if-c-code.false

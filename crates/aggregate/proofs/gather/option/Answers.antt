@@ -14,8 +14,8 @@ returns-then-all-join c =
 pub join_all-requires : goal.join_all-requires
 join_all-requires c =
     record {
-      opened = c.pre;
-      fits = value_fits _ _ c.args.join.now c.tally-all.ensures c.if-all-join.false;
+      opened = c.requires;
+      fits = value_fits _ _ c.args.join.now c.tally_all-all.ensures c.if-all-join.false;
     }
 
 pub returns-then-all-gt0 : goal.returns-then-all-gt0

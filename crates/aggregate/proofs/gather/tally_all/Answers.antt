@@ -37,7 +37,7 @@ count-file-requires c =
     let reads : Reads message c.args.named =
         opens message c.args.named c.requires in
     let in-options : Counted c.args.code reads.in-options (0 + length message) c.count-options.result =
-        counted_more at.options message (counted_none _ c.none.ensures) (options_at reads c.spans-of.ensures)
+        counted_more at.options message (counted_none _ c.none.ensures) (options_at reads c.spans_of-at.ensures)
         c.count-options.ensures in
     let f = file_front reads c.spans_of-at.ensures in
     omega (arith, in-options.few, reads.most, f.0, f.1)
@@ -59,17 +59,16 @@ count-requires c =
     let reads : Reads message c.args.named =
         opens message c.args.named c.requires in
     let in-options : Counted c.args.code reads.in-options (0 + length message) c.count-options.result =
-        counted_more at.options message (counted_none _ c.none.ensures) (options_at reads c.spans-of.ensures)
+        counted_more at.options message (counted_none _ c.none.ensures) (options_at reads c.spans_of-at.ensures)
         c.count-options.ensures in
     let file : List ℕ =
         take at.file message in
     let in_file : Counted c.args.code (reads.in-options ++ reads.in_file) (0 + length message + length file) c.count-file.result =
-        counted_more 108 file in-options (file_at reads c.spans-of.ensures) c.count-file.ensures in
+        counted_more 108 file in-options (file_at reads c.spans_of-at.ensures) c.count-file.ensures in
     let f = file_front reads c.spans_of-at.ensures in
     let g = sname_front reads c.spans_of-at.ensures in
     omega (arith, in_file.few, reads.most, f.0, f.1, g.0, g.1)
 
--- what was counted of the options, and of file behind them
 pub returns : goal.returns
 returns c =
     let message : List ℕ =
@@ -79,12 +78,12 @@ returns c =
     let reads : Reads message c.args.named =
         opens message c.args.named c.requires in
     let in-options : Counted c.args.code reads.in-options (0 + length message) c.count-options.result =
-        counted_more at.options message (counted_none _ c.none.ensures) (options_at reads c.spans-of.ensures)
+        counted_more at.options message (counted_none _ c.none.ensures) (options_at reads c.spans_of-at.ensures)
         c.count-options.ensures in
     let file : List ℕ =
         take at.file message in
     let in_file : Counted c.args.code (reads.in-options ++ reads.in_file) (0 + length message + length file) c.count-file.result =
-        counted_more 108 file in-options (file_at reads c.spans-of.ensures) c.count-file.ensures in
-    let sname = take (at c).sname (message c) in
-    let all = counted_more 44 sname in_file (sname_at (reads c) c.spans-of.ensures) c.count.ensures in
-    all.is ∙ ap (tallied c.args.code none) (sym (reads c).all)
+        counted_more 108 file in-options (file_at reads c.spans_of-at.ensures) c.count-file.ensures in
+    let sname = take at.sname message in
+    let all = counted_more 44 sname in_file (sname_at reads c.spans_of-at.ensures) c.count.ensures in
+    all.is ∙ ap (tallied c.args.code none) (sym reads.all)

@@ -27,19 +27,19 @@ returns-in-Ended c =
 
 pub overflow_add-len : goal.overflow_add-len
 overflow_add-len c =
-    let found : let p = c.c-1.given.0 in FirstPart c.args.bytes.now c.loop-c.at p.0 p.1.0 p.1.1.0 =
+    let found : FirstPart c.args.bytes.now c.loop-c.at c.in-Part.c c.in-Part.n c.in-Part.place =
         first_part _ _ c.portion_at.ensures c.in-Part.is in
     let p = found in omega arith
 
 pub loop-c-smaller-then-c-code : goal.loop-c-smaller-then-c-code
 loop-c-smaller-then-c-code c =
-    let found : let p = c.c-1.given.0 in FirstPart c.args.bytes.now c.loop-c.at p.0 p.1.0 p.1.1.0 =
+    let found : FirstPart c.args.bytes.now c.loop-c.at c.in-Part.c c.in-Part.n c.in-Part.place =
         first_part _ _ c.portion_at.ensures c.in-Part.is in
     let p = found in omega arith
 
 pub loop-c-preserved-then-c-code : goal.loop-c-preserved-then-c-code
 loop-c-preserved-then-c-code c =
-    let found : let p = c.c-1.given.0 in FirstPart c.args.bytes.now c.loop-c.at p.0 p.1.0 p.1.1.0 =
+    let found : FirstPart c.args.bytes.now c.loop-c.at c.in-Part.c c.in-Part.n c.in-Part.place =
         first_part _ _ c.portion_at.ensures c.in-Part.is in
     let p = found in
     let l = c.loop-c in
@@ -47,13 +47,13 @@ loop-c-preserved-then-c-code c =
 
 pub loop-c-smaller : goal.loop-c-smaller
 loop-c-smaller c =
-    let found : let p = c.c-1.given.0 in FirstPart c.args.bytes.now c.loop-c.at p.0 p.1.0 p.1.1.0 =
+    let found : FirstPart c.args.bytes.now c.loop-c.at c.in-Part.c c.in-Part.n c.in-Part.place =
         first_part _ _ c.portion_at.ensures c.in-Part.is in
     let p = found in omega arith
 
 pub loop-c-preserved : goal.loop-c-preserved
 loop-c-preserved c =
-    let found : let p = c.c-1.given.0 in FirstPart c.args.bytes.now c.loop-c.at p.0 p.1.0 p.1.1.0 =
+    let found : FirstPart c.args.bytes.now c.loop-c.at c.in-Part.c c.in-Part.n c.in-Part.place =
         first_part _ _ c.portion_at.ensures c.in-Part.is in
     let p = found in
     let l = c.loop-c in
