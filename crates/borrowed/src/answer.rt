@@ -1,7 +1,7 @@
 // What one call of the walk answers.
 
 // The five stops. The crate says `None` for all of them.
-#[derive(Drop)]
+#[derive(Clone, Copy)]
 pub enum Stop {
     Out,
     End,
@@ -10,7 +10,7 @@ pub enum Stop {
     CutContinuation,
 }
 
-#[derive(Drop)]
+#[derive(Clone, Copy)]
 pub enum Step {
     // A stop, and the place behind it.
     Stopped(Stop, usize),

@@ -1,4 +1,2 @@
-pub mod Values
-pub mod Lending
 pub mod Moves
 pub mod Unique

@@ -1,6 +1,7 @@
 // The walk over an area of options as the crate's `DhcpOptionIterator` has it: it is lent, and moves its own place on. It answers what
 // `borrowed::step` answers from the place it stands at.
 #![tactic(auto)]
+
 ghost use Rattle.borrowed.specs.Walked.{Stepped};
 ghost use Rattle.lent.specs.Moved.{Moved};
 

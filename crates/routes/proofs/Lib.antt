@@ -1,4 +1,2 @@
 pub mod Rows
-pub mod Values
-pub mod Arrays
 pub mod Unique

@@ -1,6 +1,7 @@
 // Classless static routes, option 121, written into a lent room from a lent table of records. The table is gone over twice: its routes are
 // measured, then written (`laying`). What is done at a record is decided by the state of the pass; the loop over the records only goes on.
 #![tactic(auto)]
+
 ghost use Rattle.std.specs.Prelude.{◌≡◌};
 ghost use mathlib.Core.List.{[], ◌∷◌, foldl};
 ghost use Rattle.rfc.specs.Numbers.{most_part};
@@ -16,7 +17,7 @@ use limits::MOST_PART;
 
 // A route: the width of its subnet mask, its destination and its gateway. Programs in other languages lend tables of it.
 #[repr(C)]
-#[derive(Drop)]
+#[derive(Clone, Copy)]
 pub struct Route {
     pub width: u8,
     pub destination: u32,
