@@ -23,7 +23,7 @@ pub enum Stream {
 }
 
 // What a call hands out.
-#[derive(Drop)]
+#[derive(Clone, Copy)]
 pub enum Frame {
     // Nothing yet: the chunk is used up.
     More,

@@ -1,0 +1,12 @@
+-- `sindovaleph_step` meets its contract: what the first look tells, or the answer of the long way.
+-- Assumes nothing.
+use mathlib.Core.Path.{refl}
+use Rattle.borrowed.proofs.FirstLook.{steps_alone, steps_end}
+use Rattle.crossing.proofs.Carries.{step_crosses}
+use Rattle.sindovaleph.proofs.sindovaleph_step.Goals as goal
+
+pub returns-in-Alone : goal.returns-in-Alone
+returns-in-Alone c = step_crosses (steps_alone _ _ _ _ _ _ (rw c.in-Alone.is at c.first.ensures)) refl
+
+pub returns-in-Ends : goal.returns-in-Ends
+returns-in-Ends c = step_crosses (steps_end _ _ _ _ (rw c.in-Ends.is at c.first.ensures)) refl
