@@ -198,7 +198,7 @@ unfolding fills
 holds_all {lent} {s} ps h [] c = subst (λ (l : List Portion). Holds lent l s) (sym (append-nil ps)) h
 holds_all {lent} {s} ps h (q ∷ qs) c =
     subst (λ (l : List Portion). Holds lent l (fills (puts s q.code (length q.value) q.place) qs)) (append_snoc ps q qs)
-    (holds_all (ps ++ q ∷ []) (holds_more ps h q (omega (arith, c.0.1))) qs c.1)
+    (holds_all {s = puts s q.code (length q.value) q.place} (ps ++ q ∷ []) (holds_more ps h q (omega (arith, c.0.1))) qs c.1)
 
 pub holds_none : (lent : List ℕ) → Holds lent [] (sheet (replicate 256 0) lent 0)
 holds_none lent =

@@ -7,8 +7,7 @@ use native.Mathlib.Nat.{div-eq_of_lt, div-eq-sub-div}
 use native.Mathlib.Numerals.{add-one}
 use mathlib.Core.List.{List, [], ◌∷◌, ◌++◌}
 use lib.ListN.{length, drop, length-append}
-use types.Run.{OneOf, miss}
-use denote.Enum.Declared.{tag_of}
+use mathlib.Core.Logic.{◌⊎◌, ⊎_elim}
 use Rattle.facts.specs.Over.{over}
 use Rattle.facts.proofs.Over.{over_nil, over_over}
 use Rattle.rfc.specs.Numbers.{Answer, given, refused, most_bytes}
@@ -20,7 +19,6 @@ use Rattle.borrowed.specs.Walked.{stop_of, sizes}
 use Rattle.borrowed.specs.declared.answer.Stop.{Stop}
 use Rattle.borrowed.specs.declared.answer.Step.{Step}
 use Rattle.borrowed.specs.declared.answer.Step.TheVariants as step
-use Rattle.borrowed.specs.contracts.answer.Step.{the_type}
 use Rattle.borrowed.proofs.Answers.{stopped_is, found_is, refused_is, needs_is}
 use Rattle.crossing.specs.Carried.{stop_number}
 use Rattle.sindovaleph_rows.specs.Listing.{Listing, Last, full, at_stop, Columns, width, row_of, in_front, list_in, list, last_number}
@@ -163,16 +161,14 @@ module _ {c : Columns} {n : ℕ} {area : List ℕ} {place : ℕ} {rows₀ rows :
                 ∙ g.same;
           }
 
--- an area and a place that were checked are not refused, and nothing is joined: the answers that do not come, by their numbers
-abbrev others : List ℕ
-others = 2 ∷ 3 ∷ []
-
+-- at a place of an area that is not too long nothing is refused, and nothing is joined
 pub never : (area : List ℕ) (at : ℕ) → length area ≤ most_bytes → at ≤ length area → (r : Step) → r ≡ sizes (look area at)
-    → OneOf others (tag_of the_type r) → ⊥
-never area at h g (step.Stopped s to) e t = miss others 0 tt t
-never area at h g (step.Found code parts len to) e t = miss others 1 tt t
-never area at h g (step.Refused k) e t = let z : ◌≡◌ {A = ℕ} 0 1 = cc (refused_is k (look area at) e, look_walks area at h g) in omega arith
-never area at h g (step.Needs len) e t = let z : ◌≡◌ {A = ℕ} 0 1 = cc (needs_is len (look area at) e, look_walks area at h g) in omega arith
+    → ((k : ℕ) × (r ≡ step.Refused k)) ⊎ ((len : ℕ) × (r ≡ step.Needs len)) → ⊥
+never area at h g r e t =
+    ⊎_elim
+    (λ n. let z : ◌≡◌ {A = ℕ} 0 1 = cc (refused_is n.0 (look area at) (sym n.1 ∙ e), look_walks area at h g) in omega arith)
+    (λ n. let z : ◌≡◌ {A = ℕ} 0 1 = cc (needs_is n.0 (look area at) (sym n.1 ∙ e), look_walks area at h g) in omega arith)
+    t
 
 -- a call that is not refused
 pub list_given : (c : Columns) (area : List ℕ) (place room : ℕ) → length area ≤ most_bytes → place ≤ length area
