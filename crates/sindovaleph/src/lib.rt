@@ -18,40 +18,35 @@ use header::{Fields, Header};
 
 // The version of the boundary. Its name carries the number, and all who declare the boundary name it: a library of another version does
 // not link.
-#[unsafe(no_mangle)]
-pub extern "C" fn sindovaleph_boundary_5() -> u32
+pub fn sindovaleph_boundary_5() -> u32
     ensures { result ≡ version }
 {
     5
 }
 
 // All fields of the header.
-#[unsafe(no_mangle)]
-pub extern "C" fn sindovaleph_header(message: &[u8]) -> Fields
+pub fn sindovaleph_header(message: &[u8]) -> Fields
     ensures { result ≡ all_of message.now }
 {
     Header::all(message)
 }
 
 // The transaction's number alone, for callers that sort messages before they read them.
-#[unsafe(no_mangle)]
-pub extern "C" fn sindovaleph_xid(message: &[u8]) -> Field
+pub fn sindovaleph_xid(message: &[u8]) -> Field
     ensures { result ≡ field_of (rfc.field rfc.xid message.now) }
 {
     crossing::field_of(Header::xid(message))
 }
 
 // The kind of a code.
-#[unsafe(no_mangle)]
-pub extern "C" fn sindovaleph_kind_of(code: u8) -> u8
+pub fn sindovaleph_kind_of(code: u8) -> u8
     ensures { result ≡ kind_of code }
 {
     kinds::kind_of(code)
 }
 
 // Whether bytes are UTF-8.
-#[unsafe(no_mangle)]
-pub extern "C" fn sindovaleph_is_utf8(text: &[u8]) -> bool
+pub fn sindovaleph_is_utf8(text: &[u8]) -> bool
     ensures { result ≡ utf8 text.now }
 {
     text::is_utf8(text)
@@ -60,8 +55,7 @@ pub extern "C" fn sindovaleph_is_utf8(text: &[u8]) -> bool
 // One call of the walk at `place`. An option of two parts or more is joined in `join`. What a first look tells is answered at once. The
 // rest stands in two arms that could be one: a function with two callers is kept apart by the compiler, and then the short way needs none
 // of its registers. The area is lent as a new slice, and the answer built anew, so that the short way needs no memory for them either.
-#[unsafe(no_mangle)]
-pub extern "C" fn sindovaleph_step(area: &[u8], place: usize, join: &mut [u8]) -> Step
+pub fn sindovaleph_step(area: &[u8], place: usize, join: &mut [u8]) -> Step
     ensures { Stepped area.now place join.old join.new result }
 {
     match borrowed::first(area, place) {
@@ -112,8 +106,7 @@ fn anew(s: Step) -> Step
 }
 
 // A byte value.
-#[unsafe(no_mangle)]
-pub extern "C" fn sindovaleph_write_bytes(
+pub fn sindovaleph_write_bytes(
     room: &mut [u8],
     place: usize,
     code: u8,
@@ -126,8 +119,7 @@ pub extern "C" fn sindovaleph_write_bytes(
 }
 
 // End.
-#[unsafe(no_mangle)]
-pub extern "C" fn sindovaleph_close(room: &mut [u8], place: usize) -> Written
+pub fn sindovaleph_close(room: &mut [u8], place: usize) -> Written
     ensures { Wrote (close room.old place) room.old room.new place result }
 {
     crossing::written_of(options::close(room, place), place)

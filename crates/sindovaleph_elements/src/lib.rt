@@ -8,8 +8,7 @@ ghost use Rattle.crossing.specs.Carried.{element_of};
 use crossing::answers::Element;
 
 // The element at an index of a list.
-#[unsafe(no_mangle)]
-pub extern "C" fn sindovaleph_element(code: u8, value: &[u8], index: usize) -> Element
+pub fn sindovaleph_element(code: u8, value: &[u8], index: usize) -> Element
     ensures { result ≡ element_of (element index (read plain code value.now)) }
 {
     crossing::element_of(values::element(code, value, index))

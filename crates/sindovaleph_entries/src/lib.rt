@@ -23,8 +23,7 @@ pub struct Entries {
 
 // Lists the options of the message in the order in which codes first appear, four numbers a row: the code, the parts, the length of the
 // value and the place behind the last part, as `Step` has them. Nothing is joined.
-#[unsafe(no_mangle)]
-pub extern "C" fn sindovaleph_entries(message: &[u8], rows: &mut [usize]) -> Entries
+pub fn sindovaleph_entries(message: &[u8], rows: &mut [usize]) -> Entries
     ensures { ListsEntries message.now rows.old rows.new result }
 {
     match fields::overload(message) {

@@ -7,8 +7,7 @@ ghost use Rattle.crossing.specs.Carried.{Wrote};
 use crossing::answers::Written;
 
 // The listing of a message as text.
-#[unsafe(no_mangle)]
-pub extern "C" fn sindovaleph_write_listing(
+pub fn sindovaleph_write_listing(
     room: &mut [u8],
     place: usize,
     message: &[u8],

@@ -31,8 +31,7 @@ struct Filled {
 
 // Lists the options from `place` on, four numbers a row: the code, the parts, the length of the value and the place behind the
 // option, as `Step` has them. Nothing is joined.
-#[unsafe(no_mangle)]
-pub extern "C" fn sindovaleph_list(area: &[u8], place: usize, rows: &mut [usize]) -> Listed
+pub fn sindovaleph_list(area: &[u8], place: usize, rows: &mut [usize]) -> Listed
     ensures { Lists found area.now place rows.old rows.new result }
 {
     if area.len() > MOST_BYTES {

@@ -15,8 +15,7 @@ pub struct WrittenRows {
 
 // Writes an option for each row at `place`, one behind the other, as byte values. A row has three numbers: the code, and where the
 // value begins in `values` and how long it is.
-#[unsafe(no_mangle)]
-pub extern "C" fn sindovaleph_write_list(
+pub fn sindovaleph_write_list(
     room: &mut [u8],
     place: usize,
     rows: &[usize],

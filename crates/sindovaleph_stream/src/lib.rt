@@ -32,8 +32,7 @@ pub struct Received {
 }
 
 // Reads the chunk up to the first frame that it completes, or to its end.
-#[unsafe(no_mangle)]
-pub extern "C" fn sindovaleph_receive(stream: Stream, buffer: &mut [u8], chunk: &[u8]) -> Received
+pub fn sindovaleph_receive(stream: Stream, buffer: &mut [u8], chunk: &[u8]) -> Received
     ensures { Receives (rfc.receive (stands_at (state_of stream)) buffer.old chunk.now) buffer.new result }
 {
     received_of(stream::receive(state_of(stream), buffer, chunk))

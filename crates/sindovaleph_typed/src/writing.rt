@@ -10,8 +10,7 @@ use routes::Route;
 use values::answer::Node;
 
 // An address.
-#[unsafe(no_mangle)]
-pub extern "C" fn sindovaleph_write_address(
+pub fn sindovaleph_write_address(
     room: &mut [u8],
     place: usize,
     code: u8,
@@ -23,8 +22,7 @@ pub extern "C" fn sindovaleph_write_address(
 }
 
 // A byte.
-#[unsafe(no_mangle)]
-pub extern "C" fn sindovaleph_write_byte(
+pub fn sindovaleph_write_byte(
     room: &mut [u8],
     place: usize,
     code: u8,
@@ -36,8 +34,7 @@ pub extern "C" fn sindovaleph_write_byte(
 }
 
 // Yes or no.
-#[unsafe(no_mangle)]
-pub extern "C" fn sindovaleph_write_yes_no(
+pub fn sindovaleph_write_yes_no(
     room: &mut [u8],
     place: usize,
     code: u8,
@@ -49,8 +46,7 @@ pub extern "C" fn sindovaleph_write_yes_no(
 }
 
 // A number of two bytes.
-#[unsafe(no_mangle)]
-pub extern "C" fn sindovaleph_write_u16(
+pub fn sindovaleph_write_u16(
     room: &mut [u8],
     place: usize,
     code: u8,
@@ -62,8 +58,7 @@ pub extern "C" fn sindovaleph_write_u16(
 }
 
 // A number of four bytes.
-#[unsafe(no_mangle)]
-pub extern "C" fn sindovaleph_write_u32(
+pub fn sindovaleph_write_u32(
     room: &mut [u8],
     place: usize,
     code: u8,
@@ -75,8 +70,7 @@ pub extern "C" fn sindovaleph_write_u32(
 }
 
 // A number of four bytes in two's complement.
-#[unsafe(no_mangle)]
-pub extern "C" fn sindovaleph_write_i32(
+pub fn sindovaleph_write_i32(
     room: &mut [u8],
     place: usize,
     code: u8,
@@ -88,8 +82,7 @@ pub extern "C" fn sindovaleph_write_i32(
 }
 
 // Text, which has to be UTF-8.
-#[unsafe(no_mangle)]
-pub extern "C" fn sindovaleph_write_text(
+pub fn sindovaleph_write_text(
     room: &mut [u8],
     place: usize,
     code: u8,
@@ -101,8 +94,7 @@ pub extern "C" fn sindovaleph_write_text(
 }
 
 // A node type by its byte, which is written as it stands.
-#[unsafe(no_mangle)]
-pub extern "C" fn sindovaleph_write_node_type(
+pub fn sindovaleph_write_node_type(
     room: &mut [u8],
     place: usize,
     code: u8,
@@ -117,8 +109,7 @@ pub extern "C" fn sindovaleph_write_node_type(
 }
 
 // A message type.
-#[unsafe(no_mangle)]
-pub extern "C" fn sindovaleph_write_message_type(
+pub fn sindovaleph_write_message_type(
     room: &mut [u8],
     place: usize,
     code: u8,
@@ -130,8 +121,7 @@ pub extern "C" fn sindovaleph_write_message_type(
 }
 
 // Three bytes.
-#[unsafe(no_mangle)]
-pub extern "C" fn sindovaleph_write_three_bytes(
+pub fn sindovaleph_write_three_bytes(
     room: &mut [u8],
     place: usize,
     code: u8,
@@ -148,16 +138,14 @@ pub extern "C" fn sindovaleph_write_three_bytes(
 }
 
 // A flag, which has no value.
-#[unsafe(no_mangle)]
-pub extern "C" fn sindovaleph_write_flag(room: &mut [u8], place: usize, code: u8) -> Written
+pub fn sindovaleph_write_flag(room: &mut [u8], place: usize, code: u8) -> Written
     ensures { WroteValue 15 nothing code room.old room.new place result }
 {
     crossing::written_of(typed::write_flag(room, place, code), place)
 }
 
 // Addresses.
-#[unsafe(no_mangle)]
-pub extern "C" fn sindovaleph_write_addresses(
+pub fn sindovaleph_write_addresses(
     room: &mut [u8],
     place: usize,
     code: u8,
@@ -169,8 +157,7 @@ pub extern "C" fn sindovaleph_write_addresses(
 }
 
 // Pairs of addresses, one address behind the other.
-#[unsafe(no_mangle)]
-pub extern "C" fn sindovaleph_write_pairs(
+pub fn sindovaleph_write_pairs(
     room: &mut [u8],
     place: usize,
     code: u8,
@@ -182,8 +169,7 @@ pub extern "C" fn sindovaleph_write_pairs(
 }
 
 // Numbers of two bytes.
-#[unsafe(no_mangle)]
-pub extern "C" fn sindovaleph_write_u16s(
+pub fn sindovaleph_write_u16s(
     room: &mut [u8],
     place: usize,
     code: u8,
@@ -195,8 +181,7 @@ pub extern "C" fn sindovaleph_write_u16s(
 }
 
 // Codes of options.
-#[unsafe(no_mangle)]
-pub extern "C" fn sindovaleph_write_codes(
+pub fn sindovaleph_write_codes(
     room: &mut [u8],
     place: usize,
     code: u8,
@@ -208,8 +193,7 @@ pub extern "C" fn sindovaleph_write_codes(
 }
 
 // The lent table of classless routes.
-#[unsafe(no_mangle)]
-pub extern "C" fn sindovaleph_write_routes(
+pub fn sindovaleph_write_routes(
     room: &mut [u8],
     place: usize,
     routes: &[Route],

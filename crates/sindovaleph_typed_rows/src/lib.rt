@@ -6,8 +6,7 @@ ghost use Rattle.sindovaleph_rows.specs.Listing.{Lists, typed};
 use sindovaleph_rows::listing::Listed;
 
 // Lists the options from `place` on with what each reads as, plain or strict, eight numbers a row.
-#[unsafe(no_mangle)]
-pub extern "C" fn sindovaleph_read_list(
+pub fn sindovaleph_read_list(
     area: &[u8],
     place: usize,
     rows: &mut [usize],

@@ -9,8 +9,7 @@ ghost use Rattle.crossing.specs.Carried.{value_of};
 use crossing::answers::Value;
 
 // What the value of an option with this code reads as, plain or strict.
-#[unsafe(no_mangle)]
-pub extern "C" fn sindovaleph_read(code: u8, value: &[u8], strict: bool) -> Value
+pub fn sindovaleph_read(code: u8, value: &[u8], strict: bool) -> Value
     ensures { result ≡ value_of (read (mode_of strict) code value.now) }
 {
     crossing::value_of(values::read(code, value, strict))
