@@ -1,5 +1,6 @@
 // Numbers out of bytes in network byte order, one function a width, as the crate's `Decoder` reads them; and those at a place of a slice.
 #![tactic(auto)]
+
 ghost use Rattle.std.specs.Prelude.{◌≡◌, [], ◌∷◌};
 ghost use Rattle.facts.specs.BigEndian.{number, number_at, signed};
 

@@ -1,6 +1,7 @@
 // Writes at a place of a lent room, as the crate's `Encoder` does into a fresh buffer. A room does not grow: what does not fit is
 // refused, and a refusal changes nothing.
 #![tactic(auto)]
+
 ghost use Rattle.std.specs.Prelude.{◌≡◌, ◌+◌, ◌*◌, ◌≤◌, length, take, drop};
 ghost use Rattle.facts.specs.Over.{over};
 ghost use Rattle.facts.specs.BigEndian.{digits, unsigned};

@@ -1,5 +1,6 @@
 // How a value is cut into parts: how many bytes it takes so, and how many of its bytes the next part takes.
 #![tactic(auto)]
+
 ghost use Rattle.std.specs.Prelude.{◌≡◌};
 ghost use Rattle.rfc.specs.Writing.{size_in_parts, next_part};
 

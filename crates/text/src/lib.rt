@@ -1,6 +1,7 @@
 // Whether bytes are UTF-8, as the crate's `Decoder::read_string` asks it of `str::from_utf8`: first past the blocks of ASCII bytes in
 // front, then by whole characters, a form of the grammar of RFC 3629, section 4, for each.
 #![tactic(auto)]
+
 ghost use Rattle.std.specs.Prelude.{◌≡◌, true, false, ◌||◌, [], ◌∷◌, ◌+◌, ◌≤◌, ◌<◌, ltb, length, drop, get_or};
 ghost use Rattle.facts.specs.Ranges.{within};
 ghost use Rattle.rfc.specs.Text.{utf8, range, tail};

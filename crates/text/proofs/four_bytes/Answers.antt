@@ -21,24 +21,24 @@ returns-then-not-begins_four c =
 pub returns-then-not-between : goal.returns-then-not-between
 returns-then-not-between c =
     let two : let a = c.args in Reached a.text.now a.i 2 (some (tail ∷ tail ∷ [])) =
-        let pre = c.requires in
-        four_on _ _ pre.0 (omega arith) (omega arith) (rw pre.1 at (c.begins_four.ensures.0 (c.if-not-begins_four.false))) in
+    let pre = c.requires in
+    four_on _ _ pre.0 (omega arith) (omega arith) (rw pre.1 at (c.begins_four.ensures.0 (c.if-not-begins_four.false))) in
     off two (omega arith) c.between.ensures c.if-not-between.true-raw
 
 pub returns-then-not-between-2 : goal.returns-then-not-between-2
 returns-then-not-between-2 c =
     let two : let a = c.args in Reached a.text.now a.i 2 (some (tail ∷ tail ∷ [])) =
-        let pre = c.requires in
-        four_on _ _ pre.0 (omega arith) (omega arith) (rw pre.1 at (c.begins_four.ensures.0 (c.if-not-begins_four.false))) in
+    let pre = c.requires in
+    four_on _ _ pre.0 (omega arith) (omega arith) (rw pre.1 at (c.begins_four.ensures.0 (c.if-not-begins_four.false))) in
     let three : let a = c.args in Reached a.text.now a.i 3 (some (tail ∷ [])) =
-        on two (omega arith) c.between.ensures c.if-not-between.false-raw in
+    on two (omega arith) c.between.ensures c.if-not-between.false-raw in
     off three (omega arith) c.between-2.ensures c.if-not-between-2.true-raw
 
 pub returns : goal.returns
 returns c =
     let two : let a = c.args in Reached a.text.now a.i 2 (some (tail ∷ tail ∷ [])) =
-        let pre = c.requires in
-        four_on _ _ pre.0 (omega arith) (omega arith) (rw pre.1 at (c.begins_four.ensures.0 (c.if-not-begins_four.false))) in
+    let pre = c.requires in
+    four_on _ _ pre.0 (omega arith) (omega arith) (rw pre.1 at (c.begins_four.ensures.0 (c.if-not-begins_four.false))) in
     let three : let a = c.args in Reached a.text.now a.i 3 (some (tail ∷ [])) =
-        on two (omega arith) c.between.ensures c.if-not-between.false-raw in
+    on two (omega arith) c.between.ensures c.if-not-between.false-raw in
     one_there (on three (omega arith) c.between-2.ensures c.if-not-between-2.false-raw)

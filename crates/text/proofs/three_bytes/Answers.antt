@@ -17,11 +17,11 @@ returns-then-not-between c = off (asked c.requires) (omega arith) c.between.ensu
 pub returns-then-not-between-2 : goal.returns-then-not-between-2
 returns-then-not-between-2 c =
     let two : let a = c.args in Reached a.text.now a.i 2 (some (tail ∷ [])) =
-        on (asked c.requires) (omega arith) c.between.ensures c.if-not-between.false-raw in
+    on (asked c.requires) (omega arith) c.between.ensures c.if-not-between.false-raw in
     off two (omega arith) c.between-2.ensures c.if-not-between-2.true-raw
 
 pub returns : goal.returns
 returns c =
     let two : let a = c.args in Reached a.text.now a.i 2 (some (tail ∷ [])) =
-        on (asked c.requires) (omega arith) c.between.ensures c.if-not-between.false-raw in
+    on (asked c.requires) (omega arith) c.between.ensures c.if-not-between.false-raw in
     one_there (on two (omega arith) c.between-2.ensures c.if-not-between-2.false-raw)
