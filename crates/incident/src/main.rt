@@ -23,7 +23,9 @@ fn write_message(message: &mut [u8]) {
 }
 
 fn tell(rt: &impl Print, message: &[u8]) -> io::Result<()> {
-    println!(rt; "message {}", message.len())?;
+    print!(rt; "message ")?;
+    say_number(rt, message.len())?;
+    println!(rt)?;
     tell_fields(rt, message)?;
     say_chaddr(rt, message, Header::chaddr(message))?;
     say_part(rt, b"sname", message, Header::sname(message))?;
@@ -65,7 +67,9 @@ fn say_chaddr(rt: &impl Print, message: &[u8], chaddr: Chaddr) -> io::Result<()>
             spills,
         } => {
             say_shown(rt, message, start, len)?;
-            print!(rt; ", {own} in the field")?;
+            print!(rt; ", ")?;
+            say_number(rt, own)?;
+            print!(rt; " in the field")?;
             if spills {
                 print!(rt; ", spills")?;
             }
@@ -86,8 +90,10 @@ fn say_part(rt: &impl Print, name: &[u8], message: &[u8], part: Part) -> io::Res
 
 // Where bytes stand, and how many of them are shown.
 fn say_shown(rt: &impl Print, message: &[u8], start: usize, len: usize) -> io::Result<()> {
-    let shown = borrowed::part(message, start, len).len();
-    print!(rt; " from {start} bytes {shown}")
+    print!(rt; " from ")?;
+    say_number(rt, start)?;
+    print!(rt; " bytes ")?;
+    say_number(rt, borrowed::part(message, start, len).len())
 }
 
 fn tell_area(rt: &impl Print, message: &[u8], area: Area) -> io::Result<()> {
@@ -118,28 +124,40 @@ fn say_whole(rt: &impl Print, answer: Whole) -> io::Result<()> {
         Whole::Refused(number) => say_refused(rt, number)?,
         Whole::Needs(len) => {
             say_refused(rt, 5)?;
-            print!(rt; " needs {len}")?;
+            print!(rt; " needs ")?;
+            say_number(rt, len)?;
         }
     }
     println!(rt)
 }
 
 fn say_value(rt: &impl Print, code: u8, value: Value, place: usize) -> io::Result<()> {
-    print!(rt; "option {code}")?;
+    print!(rt; "option ")?;
+    say_number(rt, code as usize)?;
     match value {
-        Value::MessageType(n) => print!(rt; " message type {n}")?,
+        Value::MessageType(n) => {
+            print!(rt; " message type ")?;
+            say_number(rt, n as usize)?;
+        }
         _ => print!(rt; " no message type")?,
     }
-    print!(rt; " place {place}")
+    print!(rt; " place ")?;
+    say_number(rt, place)
 }
 
 fn say_stop(rt: &impl Print, stop: Stop, at: usize) -> io::Result<()> {
     match stop {
-        Stop::End => print!(rt; "stop end {at}"),
-        _ => print!(rt; "another stop {at}"),
+        Stop::End => print!(rt; "stop end ")?,
+        _ => print!(rt; "another stop ")?,
     }
+    say_number(rt, at)
 }
 
 fn say_refused(rt: &impl Print, number: u8) -> io::Result<()> {
-    print!(rt; " refused {number}")
+    print!(rt; " refused ")?;
+    say_number(rt, number as usize)
+}
+
+fn say_number(rt: &impl Print, n: usize) -> io::Result<()> {
+    print!(rt; "{n}")
 }
