@@ -1,9 +1,11 @@
 // The worked examples of writing, run: the parts and the bytes that each write takes, or its refusal; and what each typed writer writes.
 // Behind them lists of no element, read in both modes.
 #![tactic(auto)]
+
 use borrowed::answer::Step;
 use encoder::Written;
 use routes::Route;
+use std::io;
 use values::answer::{Node, Value};
 use whole::Whole;
 
@@ -12,102 +14,102 @@ const GATEWAY: u32 = 3221225985;
 
 const TEN: u32 = 167772160;
 
-fn main() {
-    tell_sizes();
-    tell_numbers();
-    tell_others();
-    tell_lists();
-    tell_routes();
-    tell_empty();
+fn main(rt: HostRuntime) -> io::Result<()> {
+    tell_sizes(&rt)?;
+    tell_numbers(&rt)?;
+    tell_others(&rt)?;
+    tell_lists(&rt)?;
+    tell_routes(&rt)?;
+    tell_empty(&rt)
 }
 
 // Byte values around one part and around the most bytes, and addresses as addresses and as a byte value.
-fn tell_sizes() {
+fn tell_sizes(rt: &impl Print) -> io::Result<()> {
     let value = [7u8; 4081];
     let addresses = [TEN; 127];
     let mut room = [0u8; 4200];
     let one = options::write_bytes(&mut room, 0, 43, &value[0..255]);
-    say_size(b"value of 255 bytes", &room, one);
+    say_size(rt, b"value of 255 bytes", &room, one)?;
     let two = options::write_bytes(&mut room, 0, 43, &value[0..256]);
-    say_size(b"value of 256 bytes", &room, two);
+    say_size(rt, b"value of 256 bytes", &room, two)?;
     let most = options::write_bytes(&mut room, 0, 43, &value[0..4080]);
-    say_size(b"value of 4080 bytes", &room, most);
+    say_size(rt, b"value of 4080 bytes", &room, most)?;
     let more = options::write_bytes(&mut room, 0, 43, &value);
-    say_size(b"value of 4081 bytes", &room, more);
+    say_size(rt, b"value of 4081 bytes", &room, more)?;
     let list = lists::write_addresses(&mut room, 0, 6, &addresses);
-    say_size(b"127 addresses", &room, list);
+    say_size(rt, b"127 addresses", &room, list)?;
     let bytes = options::write_bytes(&mut room, 0, 6, &value[0..508]);
-    say_size(b"508 bytes", &room, bytes);
+    say_size(rt, b"508 bytes", &room, bytes)
 }
 
-fn tell_numbers() {
+fn tell_numbers(rt: &impl Print) -> io::Result<()> {
     let mut room = [0u8; 64];
     let address = typed::write_address(&mut room, 0, 1, GATEWAY);
-    say_bytes(b"address", &room, address);
+    say_bytes(rt, b"address", &room, address)?;
     let byte = typed::write_byte(&mut room, 0, 23, 64);
-    say_bytes(b"byte", &room, byte);
+    say_bytes(rt, b"byte", &room, byte)?;
     let yes = typed::write_yes_no(&mut room, 0, 19, true);
-    say_bytes(b"yes", &room, yes);
+    say_bytes(rt, b"yes", &room, yes)?;
     let no = typed::write_yes_no(&mut room, 0, 19, false);
-    say_bytes(b"no", &room, no);
+    say_bytes(rt, b"no", &room, no)?;
     let short = typed::write_u16(&mut room, 0, 57, 1500);
-    say_bytes(b"u16", &room, short);
+    say_bytes(rt, b"u16", &room, short)?;
     let long = typed::write_u32(&mut room, 0, 51, 86400);
-    say_bytes(b"u32", &room, long);
+    say_bytes(rt, b"u32", &room, long)?;
     let seconds = typed::write_i32(&mut room, 0, 2, -3600);
-    say_bytes(b"i32", &room, seconds);
+    say_bytes(rt, b"i32", &room, seconds)
 }
 
-fn tell_others() {
+fn tell_others(rt: &impl Print) -> io::Result<()> {
     let mut room = [0u8; 64];
     let text = typed::write_text(&mut room, 0, 12, b"host");
-    say_bytes(b"text", &room, text);
+    say_bytes(rt, b"text", &room, text)?;
     let other = typed::write_text(&mut room, 0, 12, &[255]);
-    say_bytes(b"text that is not UTF-8", &room, other);
+    say_bytes(rt, b"text that is not UTF-8", &room, other)?;
     let node = typed::write_node_type(&mut room, 0, 46, Node::H);
-    say_bytes(b"node type", &room, node);
+    say_bytes(rt, b"node type", &room, node)?;
     let message = typed::write_message_type(&mut room, 0, 53, 5);
-    say_bytes(b"message type", &room, message);
+    say_bytes(rt, b"message type", &room, message)?;
     let three = typed::write_three_bytes(&mut room, 0, 94, 1, 2, 1);
-    say_bytes(b"three bytes", &room, three);
+    say_bytes(rt, b"three bytes", &room, three)?;
     let flag = typed::write_flag(&mut room, 0, 80);
-    say_bytes(b"flag", &room, flag);
+    say_bytes(rt, b"flag", &room, flag)?;
     let kind = typed::write_flag(&mut room, 0, 81);
-    say_bytes(b"flag to a code of another kind", &room, kind);
+    say_bytes(rt, b"flag to a code of another kind", &room, kind)
 }
 
-fn tell_lists() {
+fn tell_lists(rt: &impl Print) -> io::Result<()> {
     let mut room = [0u8; 64];
     let addresses = lists::write_addresses(&mut room, 0, 6, &[GATEWAY, TEN]);
-    say_bytes(b"addresses", &room, addresses);
+    say_bytes(rt, b"addresses", &room, addresses)?;
     let pairs = lists::write_pairs(&mut room, 0, 33, &[TEN, GATEWAY]);
-    say_bytes(b"pairs", &room, pairs);
+    say_bytes(rt, b"pairs", &room, pairs)?;
     let odd = lists::write_pairs(&mut room, 0, 33, &[TEN, GATEWAY, TEN]);
-    say_bytes(b"three addresses as pairs", &room, odd);
+    say_bytes(rt, b"three addresses as pairs", &room, odd)?;
     let sizes = lists::write_u16s(&mut room, 0, 25, &[68, 1500]);
-    say_bytes(b"u16s", &room, sizes);
+    say_bytes(rt, b"u16s", &room, sizes)?;
     let codes = typed::write_codes(&mut room, 0, 55, &[1, 3, 6, 121]);
-    say_bytes(b"codes", &room, codes);
+    say_bytes(rt, b"codes", &room, codes)?;
     let none = typed::write_codes(&mut room, 0, 55, &[]);
-    say_bytes(b"no codes", &room, none);
+    say_bytes(rt, b"no codes", &room, none)
 }
 
-fn tell_routes() {
+fn tell_routes(rt: &impl Print) -> io::Result<()> {
     let mut room = [0u8; 64];
     let eight = routes::write_route(&mut room, 0, route(8, TEN));
-    say_bytes(b"10.0.0.0/8", &room, eight);
+    say_bytes(rt, b"10.0.0.0/8", &room, eight)?;
     let all = routes::write_route(&mut room, 0, route(0, 0));
-    say_bytes(b"0.0.0.0/0", &room, all);
+    say_bytes(rt, b"0.0.0.0/0", &room, all)?;
     let wide = routes::write_route(&mut room, 0, route(33, TEN));
-    say_bytes(b"width 33", &room, wide);
+    say_bytes(rt, b"width 33", &room, wide)
 }
 
 // Routers of no element, in one part and in two, and of one element; and the home agents, which may be none.
-fn tell_empty() {
-    say_modes(&[3, 0]);
-    say_modes(&[3, 0, 3, 0]);
-    say_modes(&[3, 0, 3, 4, 192, 0, 2, 1]);
-    say_modes(&[68, 0]);
+fn tell_empty(rt: &impl Print) -> io::Result<()> {
+    say_modes(rt, &[3, 0])?;
+    say_modes(rt, &[3, 0, 3, 0])?;
+    say_modes(rt, &[3, 0, 3, 4, 192, 0, 2, 1])?;
+    say_modes(rt, &[68, 0])
 }
 
 fn route(width: u8, destination: u32) -> Route {
@@ -119,91 +121,87 @@ fn route(width: u8, destination: u32) -> Route {
 }
 
 // The parts and the bytes of what was written at the room's front.
-fn say_size(name: &[u8], room: &[u8], written: Written) {
-    io::write_all(1, name);
+fn say_size(rt: &impl Print, name: &[u8], room: &[u8], written: Written) -> io::Result<()> {
+    rt.write_all(name)?;
     match written {
         Written::To(to) => {
-            say_parts(borrowed::part(room, 0, to));
-            io::write_all(1, b" bytes ");
-            io::print_decimal(1, to as u64);
+            say_parts(rt, borrowed::part(room, 0, to))?;
+            print!(rt; " bytes {to}")?;
         }
-        Written::Refused(number) => say_refused(number),
+        Written::Refused(number) => say_refused(rt, number)?,
     }
-    io::write_all(1, b"\n");
+    println!(rt)
 }
 
 // The parts of the first option of an area.
-fn say_parts(area: &[u8]) {
-    let mut join = io::buffer();
+fn say_parts(rt: &impl Print, area: &[u8]) -> io::Result<()> {
+    let mut join = [0u8; 4096];
     if let Step::Found { parts, .. } = borrowed::step(area, 0, &mut join) {
-        io::write_all(1, b": parts ");
-        io::print_decimal(1, parts as u64);
+        print!(rt; ": parts {parts}")?;
     }
+    Ok(())
 }
 
 // What the first option of an area reads as, plain and strict.
-fn say_modes(area: &[u8]) {
-    let mut join = io::buffer();
+fn say_modes(rt: &impl Print, area: &[u8]) -> io::Result<()> {
+    let mut join = [0u8; 4096];
     let found = borrowed::step(area, 0, &mut join);
     say_reading(
+        rt,
         b"plain",
         area,
         whole::read_option(found, area, &join, false),
-    );
+    )?;
     say_reading(
+        rt,
         b"strict",
         area,
         whole::read_option(found, area, &join, true),
-    );
+    )
 }
 
-fn say_reading(mode: &[u8], area: &[u8], read: Whole) {
-    io::write_all(1, mode);
-    say_all(area);
+fn say_reading(rt: &impl Print, mode: &[u8], area: &[u8], read: Whole) -> io::Result<()> {
+    rt.write_all(mode)?;
+    say_all(rt, area)?;
     match read {
-        Whole::Valued { value, .. } => say_count(value),
-        Whole::Refused(number) => say_refused(number),
-        _ => {
-            io::write_all(1, b": no value");
-        }
+        Whole::Valued { value, .. } => say_count(rt, value)?,
+        Whole::Refused(number) => say_refused(rt, number)?,
+        _ => print!(rt; ": no value")?,
     }
-    io::write_all(1, b"\n");
+    println!(rt)
 }
 
-fn say_count(value: Value) {
+fn say_count(rt: &impl Print, value: Value) -> io::Result<()> {
     if let Value::Addresses(count) = value {
-        io::write_all(1, b": addresses ");
-        io::print_decimal(1, count as u64);
+        print!(rt; ": addresses {count}")?;
     }
+    Ok(())
 }
 
 // The bytes that were written at the room's front.
-fn say_bytes(name: &[u8], room: &[u8], written: Written) {
-    io::write_all(1, name);
+fn say_bytes(rt: &impl Print, name: &[u8], room: &[u8], written: Written) -> io::Result<()> {
+    rt.write_all(name)?;
     match written {
         Written::To(to) => {
-            io::write_all(1, b":");
-            say_all(borrowed::part(room, 0, to));
+            print!(rt; ":")?;
+            say_all(rt, borrowed::part(room, 0, to))?;
         }
-        Written::Refused(number) => say_refused(number),
+        Written::Refused(number) => say_refused(rt, number)?,
     }
-    io::write_all(1, b"\n");
+    println!(rt)
 }
 
-fn say_all(bytes: &[u8]) {
-    let mut i: usize = 0;
-    while i < bytes.len() {
-        say_byte(bytes[i]);
-        i += 1;
+fn say_all(rt: &impl Print, bytes: &[u8]) -> io::Result<()> {
+    for byte in bytes {
+        say_byte(rt, *byte)?;
     }
+    Ok(())
 }
 
-fn say_byte(byte: u8) {
-    io::write_all(1, b" ");
-    io::print_decimal(1, byte as u64);
+fn say_byte(rt: &impl Print, byte: u8) -> io::Result<()> {
+    print!(rt; " {byte}")
 }
 
-fn say_refused(number: u8) {
-    io::write_all(1, b": refused ");
-    io::print_decimal(1, number as u64);
+fn say_refused(rt: &impl Print, number: u8) -> io::Result<()> {
+    print!(rt; ": refused {number}")
 }

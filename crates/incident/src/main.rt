@@ -1,15 +1,17 @@
 // The message of the incident as the library reads it: 244 bytes whose hlen says 255, and the same with 39 bytes more.
 #![tactic(auto)]
+
 use borrowed::answer::Stop;
 use header::{Area, Chaddr, Header, Number, Part};
+use std::io;
 use values::answer::Value;
 use whole::Whole;
 
-fn main() {
+fn main(rt: HostRuntime) -> io::Result<()> {
     let mut message = [7u8; 283];
     write_message(&mut message);
-    tell(&message[0..244]);
-    tell(&message);
+    tell(&rt, &message[0..244])?;
+    tell(&rt, &message)
 }
 
 // A reply with zeros up to the magic, and behind it `53 1 5 255`.
@@ -20,46 +22,43 @@ fn write_message(message: &mut [u8]) {
     encoder::write_slice(message, Header::OPTIONS, &[53, 1, 5, 255]);
 }
 
-fn tell(message: &[u8]) {
-    io::write_all(1, b"message ");
-    say_number(message.len());
-    io::write_all(1, b"\n");
-    tell_fields(message);
-    say_chaddr(message, Header::chaddr(message));
-    say_part(b"sname", message, Header::sname(message));
-    say_part(b"file", message, Header::file(message));
-    tell_area(message, Header::area(message));
+fn tell(rt: &impl Print, message: &[u8]) -> io::Result<()> {
+    print!(rt; "message ")?;
+    say_number(rt, message.len())?;
+    println!(rt)?;
+    tell_fields(rt, message)?;
+    say_chaddr(rt, message, Header::chaddr(message))?;
+    say_part(rt, b"sname", message, Header::sname(message))?;
+    say_part(rt, b"file", message, Header::file(message))?;
+    tell_area(rt, message, Header::area(message))
 }
 
-fn tell_fields(message: &[u8]) {
-    say_field(b"op", Header::op(message));
-    say_field(b"htype", Header::htype(message));
-    say_field(b"hlen", Header::hlen(message));
-    say_field(b"hops", Header::hops(message));
-    say_field(b"xid", Header::xid(message));
-    say_field(b"secs", Header::secs(message));
-    say_field(b"flags", Header::flags(message));
-    say_field(b"ciaddr", Header::ciaddr(message));
-    say_field(b"yiaddr", Header::yiaddr(message));
-    say_field(b"siaddr", Header::siaddr(message));
-    say_field(b"giaddr", Header::giaddr(message));
+fn tell_fields(rt: &impl Print, message: &[u8]) -> io::Result<()> {
+    say_field(rt, b"op", Header::op(message))?;
+    say_field(rt, b"htype", Header::htype(message))?;
+    say_field(rt, b"hlen", Header::hlen(message))?;
+    say_field(rt, b"hops", Header::hops(message))?;
+    say_field(rt, b"xid", Header::xid(message))?;
+    say_field(rt, b"secs", Header::secs(message))?;
+    say_field(rt, b"flags", Header::flags(message))?;
+    say_field(rt, b"ciaddr", Header::ciaddr(message))?;
+    say_field(rt, b"yiaddr", Header::yiaddr(message))?;
+    say_field(rt, b"siaddr", Header::siaddr(message))?;
+    say_field(rt, b"giaddr", Header::giaddr(message))
 }
 
-fn say_field(name: &[u8], field: Number) {
-    io::write_all(1, name);
+fn say_field(rt: &impl Print, name: &[u8], field: Number) -> io::Result<()> {
+    rt.write_all(name)?;
     match field {
-        Number::Is(n) => {
-            io::write_all(1, b" ");
-            io::print_decimal(1, n as u64);
-        }
-        Number::Refused(number) => say_refused(number),
+        Number::Is(n) => print!(rt; " {n}")?,
+        Number::Refused(number) => say_refused(rt, number)?,
     }
-    io::write_all(1, b"\n");
+    println!(rt)
 }
 
 // Where the hardware address stands, how many bytes of it are shown, and how many of these lie in its field.
-fn say_chaddr(message: &[u8], chaddr: Chaddr) {
-    io::write_all(1, b"chaddr");
+fn say_chaddr(rt: &impl Print, message: &[u8], chaddr: Chaddr) -> io::Result<()> {
+    print!(rt; "chaddr")?;
     match chaddr {
         Chaddr::At {
             start,
@@ -67,106 +66,98 @@ fn say_chaddr(message: &[u8], chaddr: Chaddr) {
             own,
             spills,
         } => {
-            say_shown(message, start, len);
-            io::write_all(1, b", ");
-            say_number(own);
-            io::write_all(1, b" in the field");
+            say_shown(rt, message, start, len)?;
+            print!(rt; ", ")?;
+            say_number(rt, own)?;
+            print!(rt; " in the field")?;
             if spills {
-                io::write_all(1, b", spills");
+                print!(rt; ", spills")?;
             }
         }
-        Chaddr::Refused(number) => say_refused(number),
+        Chaddr::Refused(number) => say_refused(rt, number)?,
     }
-    io::write_all(1, b"\n");
+    println!(rt)
 }
 
-fn say_part(name: &[u8], message: &[u8], part: Part) {
-    io::write_all(1, name);
+fn say_part(rt: &impl Print, name: &[u8], message: &[u8], part: Part) -> io::Result<()> {
+    rt.write_all(name)?;
     match part {
-        Part::At { start, len } => say_shown(message, start, len),
-        Part::Refused(number) => say_refused(number),
+        Part::At { start, len } => say_shown(rt, message, start, len)?,
+        Part::Refused(number) => say_refused(rt, number)?,
     }
-    io::write_all(1, b"\n");
+    println!(rt)
 }
 
 // Where bytes stand, and how many of them are shown.
-fn say_shown(message: &[u8], start: usize, len: usize) {
-    io::write_all(1, b" from ");
-    say_number(start);
-    io::write_all(1, b" bytes ");
-    say_number(borrowed::part(message, start, len).len());
+fn say_shown(rt: &impl Print, message: &[u8], start: usize, len: usize) -> io::Result<()> {
+    print!(rt; " from ")?;
+    say_number(rt, start)?;
+    print!(rt; " bytes ")?;
+    say_number(rt, borrowed::part(message, start, len).len())
 }
 
-fn tell_area(message: &[u8], area: Area) {
+fn tell_area(rt: &impl Print, message: &[u8], area: Area) -> io::Result<()> {
     match area {
-        Area::At { start, len } => tell_options(borrowed::part(message, start, len)),
-        Area::WrongMagic => {
-            io::write_all(1, b"magic wrong\n");
-        }
+        Area::At { start, len } => tell_options(rt, borrowed::part(message, start, len)),
+        Area::WrongMagic => println!(rt; "magic wrong"),
         Area::Refused(number) => {
-            io::write_all(1, b"area");
-            say_refused(number);
-            io::write_all(1, b"\n");
+            print!(rt; "area")?;
+            say_refused(rt, number)?;
+            println!(rt)
         }
     }
 }
 
 // The first two answers of the walk.
-fn tell_options(area: &[u8]) {
-    let mut join = io::buffer();
+fn tell_options(rt: &impl Print, area: &[u8]) -> io::Result<()> {
+    let mut join = [0u8; 4096];
     let first = lent::next_from(area, 0, &mut join);
-    say_whole(whole::read_option(first, area, &join, true));
+    say_whole(rt, whole::read_option(first, area, &join, true))?;
     let next = lent::next_from(area, borrowed::place_after(first, 0), &mut join);
-    say_whole(whole::read_option(next, area, &join, true));
+    say_whole(rt, whole::read_option(next, area, &join, true))
 }
 
-fn say_whole(answer: Whole) {
+fn say_whole(rt: &impl Print, answer: Whole) -> io::Result<()> {
     match answer {
-        Whole::Valued { code, value, place } => say_value(code, value, place),
-        Whole::Stopped(stop, at) => say_stop(stop, at),
-        Whole::Refused(number) => say_refused(number),
+        Whole::Valued { code, value, place } => say_value(rt, code, value, place)?,
+        Whole::Stopped(stop, at) => say_stop(rt, stop, at)?,
+        Whole::Refused(number) => say_refused(rt, number)?,
         Whole::Needs(len) => {
-            say_refused(5);
-            io::write_all(1, b" needs ");
-            say_number(len);
+            say_refused(rt, 5)?;
+            print!(rt; " needs ")?;
+            say_number(rt, len)?;
         }
     }
-    io::write_all(1, b"\n");
+    println!(rt)
 }
 
-fn say_value(code: u8, value: Value, place: usize) {
-    io::write_all(1, b"option ");
-    say_number(code as usize);
+fn say_value(rt: &impl Print, code: u8, value: Value, place: usize) -> io::Result<()> {
+    print!(rt; "option ")?;
+    say_number(rt, code as usize)?;
     match value {
         Value::MessageType(n) => {
-            io::write_all(1, b" message type ");
-            say_number(n as usize);
+            print!(rt; " message type ")?;
+            say_number(rt, n as usize)?;
         }
-        _ => {
-            io::write_all(1, b" no message type");
-        }
+        _ => print!(rt; " no message type")?,
     }
-    io::write_all(1, b" place ");
-    say_number(place);
+    print!(rt; " place ")?;
+    say_number(rt, place)
 }
 
-fn say_stop(stop: Stop, at: usize) {
+fn say_stop(rt: &impl Print, stop: Stop, at: usize) -> io::Result<()> {
     match stop {
-        Stop::End => {
-            io::write_all(1, b"stop end ");
-        }
-        _ => {
-            io::write_all(1, b"another stop ");
-        }
+        Stop::End => print!(rt; "stop end ")?,
+        _ => print!(rt; "another stop ")?,
     }
-    say_number(at);
+    say_number(rt, at)
 }
 
-fn say_refused(number: u8) {
-    io::write_all(1, b" refused ");
-    say_number(number as usize);
+fn say_refused(rt: &impl Print, number: u8) -> io::Result<()> {
+    print!(rt; " refused ")?;
+    say_number(rt, number as usize)
 }
 
-fn say_number(n: usize) {
-    io::print_decimal(1, n as u64);
+fn say_number(rt: &impl Print, n: usize) -> io::Result<()> {
+    print!(rt; "{n}")
 }

@@ -2,61 +2,52 @@
 // as its argument, its options in RFC 3396's reading. A sentence on standard error says what failed, or what the line of a message that is
 // refused or too long means; of a message that is listed nothing is said there.
 #![tactic(auto)]
+
 use encoder::Written;
 use header::Number;
 use limits::LEAST_MESSAGE;
 use lines::MOST_LISTED;
+use std::io;
+use std::io::Read;
+use std::rt::Env;
 
-// What came of reading: so many bytes, or a failure.
-#[derive(Drop)]
-enum Input {
-    Bytes(usize),
-    Failed,
-}
-
-fn main() {
+fn main(rt: HostRuntime) -> io::Result<()> {
     // One byte more than is listed, so that a longer message is told apart.
     let mut message = [0u8; MOST_LISTED + 1];
-    match read_message(&mut message) {
-        Input::Bytes(n) => list(borrowed::part(&message, 0, n), is_joined()),
-        Input::Failed => os::fail(b"it could not be read"),
+    match read_message(&mut rt.stdin(), &mut message) {
+        Ok(n) => list(&rt, borrowed::part(&message, 0, n), is_joined(&rt)),
+        Err(error) => fail(&rt, "it could not be read", error),
     }
 }
 
-// Reads until the input ends or the room is full.
-fn read_message(room: &mut [u8]) -> Input {
+// Reads until the input ends or the room is full. Answers how many bytes were read.
+fn read_message(input: &mut impl Read, room: &mut [u8]) -> io::Result<usize> {
     let mut done: usize = 0;
     while done < room.len() {
-        let got = libc::read(0, &mut room[done..]);
-        if got < 0 {
-            return Input::Failed;
-        }
-        let more = io::count(got, &room[done..]);
+        let more = input.read(&mut room[done..])?;
         if more == 0 {
             break;
         }
         done += more;
     }
-    Input::Bytes(done)
+    Ok(done)
 }
 
 // Whether RFC 3396's reading is asked for.
-fn is_joined() -> bool {
+fn is_joined(rt: &impl Env) -> bool {
     let mut word = [0u8; 6];
-    let len = os::arg(1, &mut word);
-    check::same(borrowed::part(&word, 0, len), b"joined")
+    match rt.arg(1, &mut word) {
+        Ok(len) => borrowed::part(&word, 0, len) == b"joined".as_slice(),
+        Err(_) => false,
+    }
 }
 
-fn list(message: &[u8], joined: bool) {
+fn list(rt: &(impl Print + Eprint + Alloc), message: &[u8], joined: bool) -> io::Result<()> {
     let mut text = [0u8; 65535];
     match write(&mut text, message, joined) {
-        Written::To(len) => tell(borrowed::part(&text, 0, len), message, joined),
+        Written::To(len) => tell(rt, borrowed::part(&text, 0, len), message, joined),
         // This room takes every listing (`Room.ListingFits` and `Room.JoinedFits` of `calls`); a smaller one would be told here.
-        Written::Refused(number) => {
-            io::write_all(2, b"the listing is refused ");
-            io::print_decimal(2, number as u64);
-            io::write_all(2, b"\n");
-        }
+        Written::Refused(number) => eprintln!(rt; "the listing is refused {number}"),
     }
 }
 
@@ -68,47 +59,60 @@ fn write(text: &mut [u8], message: &[u8], joined: bool) -> Written {
 }
 
 // Writes the listing of a message, and says what its line means where the message is refused or too long.
-fn tell(text: &[u8], message: &[u8], joined: bool) {
+fn tell(
+    rt: &(impl Print + Eprint + Alloc),
+    text: &[u8],
+    message: &[u8],
+    joined: bool,
+) -> io::Result<()> {
     let size = message.len();
-    if !io::write_all(1, text) {
-        os::fail(b"the listing could not be written");
+    if let Err(error) = rt.write_all(text) {
+        fail(rt, "the listing could not be written", error)
     } else if size < LEAST_MESSAGE {
-        say_short(size);
+        say_short(rt, size)
     } else if size > MOST_LISTED {
-        io::write_all(2, b"too long: it has more than ");
-        io::print_decimal(2, MOST_LISTED as u64);
-        io::write_all(2, b" bytes, and no longer message is listed\n");
+        eprintln!(rt;
+            "too long: it has more than {MOST_LISTED} bytes, and no longer message is listed"
+        )
     } else if joined {
-        say_refused(message);
+        say_refused(rt, message)
+    } else {
+        Ok(())
     }
 }
 
-fn say_short(size: usize) {
-    io::write_all(2, b"refused 1: it has ");
-    io::print_decimal(2, size as u64);
-    io::write_all(2, b" of the ");
-    io::print_decimal(2, LEAST_MESSAGE as u64);
-    io::write_all(2, b" bytes that a DHCP message has at least: it is ");
+fn say_short(rt: &impl Eprint, size: usize) -> io::Result<()> {
+    eprint!(rt;
+        "refused 1: it has {size} of the {LEAST_MESSAGE} bytes that a DHCP message has at least: it is "
+    )?;
     if size == 0 {
-        io::write_all(2, b"empty\n");
+        eprintln!(rt; "empty")
     } else {
-        io::write_all(2, b"cut, or no DHCP message\n");
+        eprintln!(rt; "cut, or no DHCP message")
     }
 }
 
 // Says what RFC 3396's reading refuses, where it does.
-fn say_refused(message: &[u8]) {
+fn say_refused(rt: &impl Eprint, message: &[u8]) -> io::Result<()> {
     match aggregate::fields::overload(message) {
-        Number::Is(_) => {}
+        Number::Is(_) => Ok(()),
         Number::Refused(number) => {
             if number == 15 {
-                io::write_all(2, b"refused 15: a field that holds options is cut\n");
+                eprintln!(rt; "refused 15: a field that holds options is cut")
             } else {
-                io::write_all(
-                    2,
-                    b"refused 16: option 52 does not say which fields hold options: it is more than one part, or not one byte of 1 to 3\n",
-                );
+                eprintln!(rt;
+                    "refused 16: option 52 does not say which fields hold options: it is more than one part, or not one byte of 1 to 3"
+                )
             }
         }
+    }
+}
+
+// Says what failed, and why in the system's words. `io::Error` puts the error's number behind them, which is left out.
+fn fail(rt: &(impl Eprint + Alloc), what: &str, error: io::Error) -> io::Result<()> {
+    let all = format!(in rt.alloc(); "{error}")?;
+    match all.as_str().split_once(" (os error ") {
+        Some((why, _)) => eprintln!(rt; "{what}: {why}"),
+        None => eprintln!(rt; "{what}: {all}"),
     }
 }

@@ -16,7 +16,7 @@ fn walk(area: &[u8], page: &mut [u8]) -> usize {
     if area.len() > MOST_BYTES {
         return pages::NOWHERE;
     }
-    let mut join = io::buffer();
+    let mut join = [0u8; 4096];
     let mut place: usize = 0;
     let mut at: usize = 0;
     let mut left: usize = area.len() + 1;

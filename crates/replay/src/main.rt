@@ -4,6 +4,7 @@
 // A record is one byte of kind (1 an area, 2 a reading, 3 a write), the input's length (2 bytes, the highest first), the input, the
 // answer's length (2 bytes) and the answer. docs/RECORDED.md has what input and answer are.
 #![tactic(auto)]
+
 mod areas;
 mod pages;
 mod readings;
@@ -11,6 +12,10 @@ mod report;
 mod writes;
 
 use report::{Ending, Tally};
+use std::fs::File;
+use std::io;
+use std::io::Read;
+use std::rt::Env;
 
 // What came of one record.
 #[derive(Drop)]
@@ -26,28 +31,30 @@ enum Took {
     Ended(Ending),
 }
 
-fn main() {
-    let mut path = io::buffer();
-    let length = os::arg(1, &mut path);
-    if os::errno() != 0 {
-        io::write_all(1, b"no file of answers is named\n");
-        return;
-    }
-    let fd = os::open_read(&path[..length]);
-    if fd < 0 {
-        io::write_all(1, b"the file of answers cannot be opened\n");
-        return;
-    }
-    let tally = replay_all(fd);
-    libc::close(fd);
-    report::say(tally);
+fn main(rt: HostRuntime) -> io::Result<()> {
+    let mut path = [0u8; 4096];
+    let Ok(length) = rt.arg(1, &mut path) else {
+        return println!(rt; "no file of answers is named");
+    };
+    let Some(mut file) = open(&rt, &path[..length]) else {
+        return println!(rt; "the file of answers cannot be opened");
+    };
+    let tally = replay_all(&mut file);
+    drop(file);
+    report::say(&rt, tally)
 }
 
-fn replay_all(fd: i32) -> Tally {
+// The file of a name, where it can be opened.
+fn open(rt: &HostRuntime, name: &[u8]) -> Option<File> {
+    let path = std::str::from_utf8(name).ok()?;
+    File::open(rt, path).ok()
+}
+
+fn replay_all(file: &mut impl Read) -> Tally {
     let mut tally = report::nothing();
     let mut turns = u64::MAX;
     while turns > 0 && tally.more {
-        tally = counted(tally, replay_one(fd));
+        tally = counted(tally, replay_one(file));
         turns -= 1;
     }
     tally
@@ -61,18 +68,18 @@ fn counted(tally: Tally, outcome: Outcome) -> Tally {
 }
 
 // Reads one record and replays it.
-fn replay_one(fd: i32) -> Outcome {
+fn replay_one(file: &mut impl Read) -> Outcome {
     let mut head = [0u8; 1];
-    if io::read_full(fd, &mut head) == 0 {
+    if file.read_exact(&mut head).is_err() {
         return Outcome::Ended(Ending::AtEnd);
     }
     let mut input = [0u8; 8192];
-    let first = read_counted(fd, &mut input);
+    let first = read_counted(file, &mut input);
     let Took::Bytes(size) = first else {
         return ended(first);
     };
     let mut answer = [0u8; 8192];
-    let second = read_counted(fd, &mut answer);
+    let second = read_counted(file, &mut answer);
     let Took::Bytes(length) = second else {
         return ended(second);
     };
@@ -91,16 +98,16 @@ fn ended(took: Took) -> Outcome {
 }
 
 // Reads a length and so many bytes, to the start of `room`.
-fn read_counted(fd: i32, room: &mut [u8]) -> Took {
+fn read_counted(file: &mut impl Read, room: &mut [u8]) -> Took {
     let mut length = [0u8; 2];
-    if io::read_full(fd, &mut length) < 2 {
+    if file.read_exact(&mut length).is_err() {
         return Took::Ended(Ending::Cut);
     }
     let size = decoder::be_u16(length[0], length[1]) as usize;
     if size > room.len() {
         return Took::Ended(Ending::TooLong);
     }
-    if io::read_full(fd, &mut room[0..size]) < size {
+    if file.read_exact(&mut room[0..size]).is_err() {
         return Took::Ended(Ending::Cut);
     }
     Took::Bytes(size)

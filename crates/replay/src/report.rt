@@ -1,4 +1,5 @@
 // What came of the records, counted and said.
+use std::io;
 
 // The kinds of records.
 pub(crate) const AREA: u8 = 1;
@@ -8,7 +9,7 @@ pub(crate) const READING: u8 = 2;
 pub(crate) const WRITE: u8 = 3;
 
 // Why a replay ended.
-#[derive(Drop)]
+#[derive(Clone, Copy)]
 pub enum Ending {
     AtEnd,
     // A record is not all there.
@@ -20,7 +21,7 @@ pub enum Ending {
 }
 
 // What came of the records so far.
-#[derive(Drop)]
+#[derive(Clone, Copy)]
 pub struct Tally {
     pub areas: u64,
     pub readings: u64,
@@ -97,42 +98,41 @@ fn total(tally: Tally) -> u64 {
 }
 
 // Says all. The last line is the verdict, and says how many are wrong only where the file was replayed to its end.
-pub(crate) fn say(tally: Tally) {
-    say_count(tally.areas, b" areas\n");
-    say_count(tally.readings, b" readings\n");
-    say_count(tally.writes, b" writes\n");
+pub(crate) fn say(rt: &impl Print, tally: Tally) -> io::Result<()> {
+    say_count(rt, tally.areas, b" areas\n")?;
+    say_count(rt, tally.readings, b" readings\n")?;
+    say_count(rt, tally.writes, b" writes\n")?;
     if tally.wrong > 0 {
-        say_record(tally.first, b" is the first that is wrong\n");
+        say_record(rt, tally.first, b" is the first that is wrong\n")?;
     }
-    say_verdict(tally, total(tally));
+    say_verdict(rt, tally, total(tally))
 }
 
-fn say_verdict(tally: Tally, total: u64) {
+fn say_verdict(rt: &impl Print, tally: Tally, total: u64) -> io::Result<()> {
     let ending = tally.ending;
     match ending {
-        Ending::AtEnd => say_end(total, tally.wrong),
-        Ending::Cut => say_record(next(total), b" is cut short\n"),
-        Ending::Unknown => say_record(next(total), b" is of no known kind\n"),
-        Ending::TooLong => say_record(next(total), b" is longer than can be replayed\n"),
+        Ending::AtEnd => say_end(rt, total, tally.wrong),
+        Ending::Cut => say_record(rt, next(total), b" is cut short\n"),
+        Ending::Unknown => say_record(rt, next(total), b" is of no known kind\n"),
+        Ending::TooLong => say_record(rt, next(total), b" is longer than can be replayed\n"),
     }
 }
 
 // A file without a record proves nothing.
-fn say_end(total: u64, wrong: u64) {
+fn say_end(rt: &impl Print, total: u64, wrong: u64) -> io::Result<()> {
     if total == 0 {
-        io::write_all(1, b"the file has no record\n");
-        return;
+        return println!(rt; "the file has no record");
     }
-    say_count(total, b" answers, ");
-    say_count(wrong, b" wrong\n");
+    say_count(rt, total, b" answers, ")?;
+    say_count(rt, wrong, b" wrong\n")
 }
 
-fn say_count(n: u64, what: &[u8]) {
-    io::print_decimal(1, n);
-    io::write_all(1, what);
+fn say_count(rt: &impl Print, n: u64, what: &[u8]) -> io::Result<()> {
+    print!(rt; "{n}")?;
+    rt.write_all(what)
 }
 
-fn say_record(n: u64, what: &[u8]) {
-    io::write_all(1, b"record ");
-    say_count(n, what);
+fn say_record(rt: &impl Print, n: u64, what: &[u8]) -> io::Result<()> {
+    print!(rt; "record ")?;
+    say_count(rt, n, what)
 }
