@@ -58,9 +58,10 @@ def tokens(text):
 
 
 def crates(root=ROOT):
-    """The names of the crates, in the order of crates.txt."""
+    """The names of the crates, in the order of crates.txt, without the static libraries: these only export what a crate before them has."""
     lines = (root / "crates.txt").read_text().splitlines()
-    return [line.split(":")[0] for line in lines if line.strip() and not line.startswith("#")]
+    names = [line.split(":")[0] for line in lines if line.strip() and not line.startswith("#")]
+    return [name for name in names if not name.endswith(" staticlib")]
 
 
 def library_crates(root=ROOT):

@@ -16,8 +16,8 @@ import verdicts
 
 SECONDS_FOR_CHECK = 300
 SECONDS_FOR_UNCHANGED = 1800
-# What a copy needs of target/: the proved libraries, and the stamps by which `rt` knows them.
-OF_TARGET = ("rlib", "stamp")
+# What `rt` makes in a crate's folder: a copy has its own.
+MADE = "out"
 
 
 class Broken(Exception):
@@ -54,25 +54,20 @@ class Copy:
         self._make()
 
     def _make(self):
-        """Copies the sources and what was proved; the incremental folders of an earlier run stay."""
-        target = self.folder / "target"
-        target.mkdir(parents=True, exist_ok=True)
-        shutil.rmtree(self.folder / "crates", ignore_errors=True)
-        shutil.copytree(self.root / "crates", self.folder / "crates")
+        """Copies the sources; what `rt` made in the copy in an earlier run stays."""
+        self.folder.mkdir(parents=True, exist_ok=True)
+        for old in (self.folder / "crates").glob("*/*"):
+            if old.name != MADE:
+                shutil.rmtree(old) if old.is_dir() else old.unlink()
+        shutil.copytree(self.root / "crates", self.folder / "crates", ignore=shutil.ignore_patterns(MADE), dirs_exist_ok=True)
         shutil.copy(self.root / "crates.txt", self.folder / "crates.txt")
-        for part in OF_TARGET:
-            if (self.root / "target" / part).is_dir():
-                shutil.rmtree(target / part, ignore_errors=True)
-                shutil.copytree(self.root / "target" / part, target / part)
 
     def check(self, crate, seconds=SECONDS_FOR_CHECK):
-        """What `rt dev` says of a crate: its exit status (none where the time was over) and its words."""
-        words = ["rt", "dev", crate]
-        environment = dict(os.environ, RT_JOBS="1", RT_CUT="0")
+        """What `rt check` says of a crate: its exit status (none where the time was over) and its words."""
+        words = ["rt", "check", "--jobs", "1"]
         self.running = subprocess.Popen(
             words,
-            cwd=self.folder,
-            env=environment,
+            cwd=self.folder / "crates" / crate,
             stdout=subprocess.PIPE,
             stderr=subprocess.STDOUT,
             text=True,

@@ -1,6 +1,7 @@
 // RFC 3396's reading of a message, a mode beside the walk: all parts of one code are joined, wherever they stand in the options field and
 // in the fields that option 52 names. An answer is the walk's own, with places of the message.
 #![tactic(auto)]
+
 pub mod fields;
 mod gather;
 mod seen;

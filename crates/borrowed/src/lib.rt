@@ -1,5 +1,6 @@
 // The walk over an area of options that is lent, as the crate's `DhcpOptionIterator::next` has it, by value: one call from a place.
 #![tactic(auto)]
+
 pub mod answer;
 mod parts;
 

@@ -6,7 +6,7 @@ use native.Mathlib.Omega.{arith}
 use mathlib.Core.List.{List, [], ◌∷◌, ◌++◌, append-nil}
 use lib.ListN.{length, drop, length-append, length-drop}
 use Rattle.facts.proofs.Over.{from_over}
-use Rattle.rfc.specs.Numbers.{Answer, given, refused, needs, most_bytes, most_value}
+use Rattle.rfc.specs.Numbers.{Answer, given, refused, most_bytes, most_value}
 use Rattle.rfc.specs.Walk as walk
 use Rattle.rfc.specs.Walk.{step, join_after}
 use Rattle.rfc.specs.Writing.{close}

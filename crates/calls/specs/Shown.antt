@@ -3,7 +3,7 @@
 -- Assumes nothing.
 use Rattle.std.specs.Prelude.{ℕ, ◌≡◌, true, false, List, [], ◌∷◌, ◌++◌, replicate}
 use Rattle.rfc.specs.Numbers.{given, refused, needs}
-use Rattle.rfc.specs.Header.{area, chaddr, magic}
+use Rattle.rfc.specs.Header.{area, magic}
 use Rattle.rfc.specs.Walk.{end, option, out, stop}
 use Rattle.rfc.specs.Values.{plain, read, strict}
 use Rattle.rfc.specs.Aggregate.{entries, overload_of}

@@ -1,6 +1,7 @@
 // A row of classless routes, option 121: its width, the significant bytes of its destination, its gateway. Rows are read out of a value, from
 // a place on or by their index, with the destination masked to its width; and one is put into a value that is being written.
 #![tactic(auto)]
+
 ghost use Rattle.std.specs.Prelude.{◌≡◌, min, ◌≤◌};
 ghost use mathlib.Core.List.{foldl};
 ghost use Rattle.rfc.specs.Routes as rfc;

@@ -1,6 +1,7 @@
 // How each answer of the library becomes a struct of plain numbers, which crosses the boundary to programs in Rust and in C: `answers` has
 // the structs, and here is a function for each.
 #![tactic(auto)]
+
 pub mod answers;
 
 ghost use Rattle.std.specs.Prelude.{◌≡◌};

@@ -1,6 +1,7 @@
 // The fixed header of a message (RFC 2131, section 2), as the crate's `Message` reads it: each field of a message of any length, or the
 // number of its refusal.
 #![tactic(auto)]
+
 ghost use Rattle.std.specs.Prelude.{min, ◌≡◌, not};
 ghost use Rattle.rfc.specs.Numbers.{first_refusal};
 ghost use Rattle.rfc.specs.Header as rfc;

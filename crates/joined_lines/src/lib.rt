@@ -1,6 +1,7 @@
 // The listing of a message in RFC 3396's reading as text, written into a lent room: a line for the fields that hold options, one for each
 // code, and how many there are.
 #![tactic(auto)]
+
 ghost use Rattle.std.specs.Prelude.{◌≡◌, length};
 ghost use Rattle.rfc.specs.Header as rfc;
 ghost use Rattle.rfc.specs.Writing.{into_room};

@@ -4,6 +4,7 @@
 // later RFCs, and `kind_of` says up to which code each function goes. In a function, a test says up to which code a range goes; then comes
 // its kind, and behind that the names of its options. All tests are by `<=`: a `match` would become a table of 600 read-only bytes.
 #![tactic(auto)]
+
 ghost use Rattle.std.specs.Prelude.{◌≡◌, ◌≤◌};
 ghost use Rattle.rfc.specs.Kinds.{kind_of, size_of};
 

@@ -2,6 +2,7 @@
 // goes over them twice. The first pass looks at each row and counts its bytes; then it is known whether the value may be written and fits,
 // and the second pass puts the bytes, one behind the other. What is done is decided by the state of the pass, which has all of it.
 #![tactic(auto)]
+
 ghost use Rattle.std.specs.Prelude.{◌≡◌, take};
 ghost use mathlib.Core.List.{foldl};
 ghost use Rattle.facts.specs.BigEndian.{digits};

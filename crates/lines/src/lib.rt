@@ -1,6 +1,7 @@
 // The listing of a message as text, written into a lent room: a line for the header, one for the hardware address, one for each option,
 // and the stop.
 #![tactic(auto)]
+
 ghost use Rattle.std.specs.Prelude.{◌≡◌, length};
 ghost use Rattle.rfc.specs.Header as rfc;
 ghost use Rattle.rfc.specs.Writing.{into_room};

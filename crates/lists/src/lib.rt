@@ -1,6 +1,7 @@
 // The writers of lists whose elements have two bytes or more, as the crate's `encode_long_opt_chunks` has them: a list is cut at whole
 // elements, and an empty one writes nothing.
 #![tactic(auto)]
+
 ghost use Rattle.std.specs.Prelude.{◌+◌, ◌*◌, ◌%◌, ◌≤◌, ◌≡◌, ◌&&◌, not, ◌∷◌, eqb, length, take, drop};
 ghost use Rattle.facts.specs.Over.{over};
 ghost use Rattle.rfc.specs.Numbers.{most_part};

@@ -1,7 +1,7 @@
 -- What the code knows of a row, and what the passes make of it.
 -- Assumes nothing.
 use mathlib.Core.Path.{◌≡◌, refl, sym, ap, ◌∙◌}
-use Prim.Native.Nat.{ℕ, ◌+◌, ◌-◌, ◌≤◌, ◌<◌, min}
+use Prim.Native.Nat.{ℕ, ◌+◌, ◌≤◌, ◌<◌, min}
 use mathlib.Core.Bool.{true, false}
 use mathlib.Core.List.{List, ◌∷◌, ◌++◌, map, foldl, foldl-append}
 use native.Mathlib.Omega.{arith}
@@ -9,7 +9,7 @@ use native.Mathlib.Decide.{dec_le}
 use borrow.Author.Tests.{lt-ltb, le-ltb}
 use lib.Dec.{lit<}
 use lib.ListN.{length, drop}
-use Rattle.facts.specs.BigEndian.{digits, number, number_at}
+use Rattle.facts.specs.BigEndian.{digits, number_at}
 use Rattle.rfc.specs.Numbers.{first_refusal}
 use Rattle.rfc.specs.Routes.{Route, significant, route_bytes}
 use Rattle.rfc.specs.Classless.{RouteRow}

@@ -2,6 +2,7 @@
 // lent room. The rows are gone over twice (`laying`): all are measured, the first bad one decides, and only then are bytes put. No table
 // stands in between.
 #![tactic(auto)]
+
 ghost use Rattle.std.specs.Prelude.{◌≡◌, ◌%◌, ◌≤◌, length};
 ghost use mathlib.Core.List.{◌++◌, foldl};
 ghost use Rattle.facts.specs.BigEndian.{digits};

@@ -1,6 +1,7 @@
 // Options written into a lent room at a place, as the crate's `encode_long_opt_bytes` writes them: parts of 255 bytes, each with its
 // code and its length before it. `rows` writes many in one call.
 #![tactic(auto)]
+
 pub mod rows;
 
 ghost use Rattle.std.specs.Prelude.{◌≡◌, ◌∷◌, ◌+◌, ◌≤◌, length, take, drop};

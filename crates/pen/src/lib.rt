@@ -1,6 +1,7 @@
 // A text that is added to at a place of a room. What does not fit is counted and not written; so a text is measured by adding it to a
 // room that is too small.
 #![tactic(auto)]
+
 ghost use Rattle.std.specs.Prelude.{◌≡◌};
 ghost use Rattle.pen.specs.Texts.{space, decimal, named, spaced};
 ghost use Rattle.pen.specs.Adding.{behind, adds, adds_all};

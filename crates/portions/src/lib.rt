@@ -1,5 +1,6 @@
 // The parts of options that a field of a message holds, one after the other: a field ends at its End or its last byte.
 #![tactic(auto)]
+
 ghost use Rattle.std.specs.Prelude.{◌≡◌, drop};
 ghost use Rattle.rfc.specs.Portions.{next_portion};
 ghost use Rattle.portions.specs.Told.{next_of, NoPad, PadsPassed};

@@ -3,6 +3,7 @@
 // `sindovaleph_step` reaches the walk, and nothing but `sindovaleph_write_bytes` the writing of a value, so the compiler makes one piece of
 // each.
 #![tactic(auto)]
+
 ghost use Rattle.std.specs.Prelude.{◌≡◌};
 ghost use Rattle.rfc.specs.Header as rfc;
 ghost use Rattle.rfc.specs.Kinds.{kind_of};
@@ -106,12 +107,7 @@ fn anew(s: Step) -> Step
 }
 
 // A byte value.
-pub fn sindovaleph_write_bytes(
-    room: &mut [u8],
-    place: usize,
-    code: u8,
-    value: &[u8],
-) -> Written
+pub fn sindovaleph_write_bytes(room: &mut [u8], place: usize, code: u8, value: &[u8]) -> Written
     ensures { Wrote (write_bytes code value.now room.old place)
         room.old room.new place result }
 {

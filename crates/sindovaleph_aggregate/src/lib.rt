@@ -1,6 +1,7 @@
 // The boundary to programs in Rust and in C, for RFC 3396's reading of a message: all parts of one code, over the fields that option 52
 // names. What stands in `Step` as a place is a place of the message.
 #![tactic(auto)]
+
 ghost use Rattle.std.specs.Prelude.{◌≡◌, length};
 ghost use Rattle.rfc.specs.Aggregate as rfc;
 ghost use Rattle.crossing.specs.Carried.{field_of, Steps};

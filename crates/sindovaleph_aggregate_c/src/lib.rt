@@ -1,5 +1,6 @@
 // What programs in Rust and in C call of `sindovaleph_aggregate`: each function of it, with its clauses, by its name and C's convention.
 #![tactic(auto)]
+
 ghost use Rattle.std.specs.Prelude.{◌≡◌, length};
 ghost use Rattle.rfc.specs.Aggregate as rfc;
 ghost use Rattle.crossing.specs.Carried.{field_of, Steps};

@@ -1,6 +1,7 @@
 // The boundary to programs in Rust and in C, for one element of a list. It reads the list first, and stands apart from `sindovaleph_read`
 // so that in each archive one function alone reads values.
 #![tactic(auto)]
+
 ghost use Rattle.std.specs.Prelude.{◌≡◌};
 ghost use Rattle.rfc.specs.Values.{read, element, plain};
 ghost use Rattle.crossing.specs.Carried.{element_of};

@@ -1,5 +1,6 @@
 // What programs in Rust and in C call of `sindovaleph_elements`: each function of it, with its clauses, by its name and C's convention.
 #![tactic(auto)]
+
 ghost use Rattle.std.specs.Prelude.{◌≡◌};
 ghost use Rattle.rfc.specs.Values.{read, element, plain};
 ghost use Rattle.crossing.specs.Carried.{element_of};

@@ -1,6 +1,7 @@
 // The boundary to programs in Rust and in C, for RFC 3396's reading of a whole message in one call, as rows of numbers. The parts are gone
 // over once: a mark for each code says which row is its own.
 #![tactic(auto)]
+
 ghost use Rattle.std.specs.Prelude.{◌+◌, ◌≤◌, ◌≡◌, [], ◌∷◌, length, drop, get_or};
 ghost use Rattle.facts.specs.Over.{over};
 ghost use Rattle.rfc.specs.Portions.{portions, parts_in};

@@ -1,5 +1,6 @@
 // What programs in Rust and in C call of `sindovaleph_lines`: each function of it, with its clauses, by its name and C's convention.
 #![tactic(auto)]
+
 ghost use Rattle.rfc.specs.Writing.{into_room};
 ghost use Rattle.lines.specs.Listing.{listing};
 ghost use Rattle.crossing.specs.Carried.{Wrote};

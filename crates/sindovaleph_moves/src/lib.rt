@@ -1,6 +1,7 @@
 // The boundary to programs in Rust and in C, for classless routes that are read, option 121, and for profiles that are moved to them from
 // static routes, option 33, and back. What is read crosses as `classless` has it, and a move answers as every writer does.
 #![tactic(auto)]
+
 ghost use Rattle.std.specs.Prelude.{◌≡◌};
 ghost use Rattle.rfc.specs.Classless as read;
 ghost use Rattle.rfc.specs.Moves as rfc;

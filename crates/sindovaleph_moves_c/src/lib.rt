@@ -1,5 +1,6 @@
 // What programs in Rust and in C call of `sindovaleph_moves`: each function of it, with its clauses, by its name and C's convention.
 #![tactic(auto)]
+
 ghost use Rattle.std.specs.Prelude.{◌≡◌};
 ghost use Rattle.rfc.specs.Classless as read;
 ghost use Rattle.rfc.specs.Moves as rfc;

@@ -1,6 +1,7 @@
 // The boundary to programs in Rust and in C, for messages out of a stream over TCP, cut anywhere. Where the stream stands goes in and comes
 // out by value, as plain numbers; the caller keeps it between two calls.
 #![tactic(auto)]
+
 ghost use Rattle.std.specs.Prelude.{◌≡◌};
 ghost use Rattle.rfc.specs.Stream as rfc;
 ghost use Rattle.stream.specs.Streamed.{stands_at};

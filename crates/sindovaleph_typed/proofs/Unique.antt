@@ -1,8 +1,5 @@
 -- Any two answers that the contract of an exported function allows are equal, and so is what they leave in lent memory.
 -- Assumes nothing.
-use mathlib.Core.Path.{sym, ◌∙◌}
-use mathlib.Core.List.{List}
-use Prim.Native.Nat.{ℕ}
 use Rattle.facts.proofs.Unique.{UniqueLeft}
 use Rattle.crossing.proofs.Carries.{wrote_one}
 use Rattle.sindovaleph_typed.proofs.writing.sindovaleph_write_address.Kinds as write-address-kinds

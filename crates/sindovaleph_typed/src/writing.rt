@@ -10,96 +10,56 @@ use routes::Route;
 use values::answer::Node;
 
 // An address.
-pub fn sindovaleph_write_address(
-    room: &mut [u8],
-    place: usize,
-    code: u8,
-    address: u32,
-) -> Written
+pub fn sindovaleph_write_address(room: &mut [u8], place: usize, code: u8, address: u32) -> Written
     ensures { WroteValue 1 (natural address) code room.old room.new place result }
 {
     crossing::written_of(typed::write_address(room, place, code, address), place)
 }
 
 // A byte.
-pub fn sindovaleph_write_byte(
-    room: &mut [u8],
-    place: usize,
-    code: u8,
-    byte: u8,
-) -> Written
+pub fn sindovaleph_write_byte(room: &mut [u8], place: usize, code: u8, byte: u8) -> Written
     ensures { WroteValue 4 (natural byte) code room.old room.new place result }
 {
     crossing::written_of(typed::write_byte(room, place, code, byte), place)
 }
 
 // Yes or no.
-pub fn sindovaleph_write_yes_no(
-    room: &mut [u8],
-    place: usize,
-    code: u8,
-    yes: bool,
-) -> Written
+pub fn sindovaleph_write_yes_no(room: &mut [u8], place: usize, code: u8, yes: bool) -> Written
     ensures { WroteValue 5 (truth yes) code room.old room.new place result }
 {
     crossing::written_of(typed::write_yes_no(room, place, code, yes), place)
 }
 
 // A number of two bytes.
-pub fn sindovaleph_write_u16(
-    room: &mut [u8],
-    place: usize,
-    code: u8,
-    number: u16,
-) -> Written
+pub fn sindovaleph_write_u16(room: &mut [u8], place: usize, code: u8, number: u16) -> Written
     ensures { WroteValue 6 (natural number) code room.old room.new place result }
 {
     crossing::written_of(typed::write_u16(room, place, code, number), place)
 }
 
 // A number of four bytes.
-pub fn sindovaleph_write_u32(
-    room: &mut [u8],
-    place: usize,
-    code: u8,
-    number: u32,
-) -> Written
+pub fn sindovaleph_write_u32(room: &mut [u8], place: usize, code: u8, number: u32) -> Written
     ensures { WroteValue 8 (natural number) code room.old room.new place result }
 {
     crossing::written_of(typed::write_u32(room, place, code, number), place)
 }
 
 // A number of four bytes in two's complement.
-pub fn sindovaleph_write_i32(
-    room: &mut [u8],
-    place: usize,
-    code: u8,
-    number: i32,
-) -> Written
+pub fn sindovaleph_write_i32(room: &mut [u8], place: usize, code: u8, number: i32) -> Written
     ensures { WroteValue 9 (integer number) code room.old room.new place result }
 {
     crossing::written_of(typed::write_i32(room, place, code, number), place)
 }
 
 // Text, which has to be UTF-8.
-pub fn sindovaleph_write_text(
-    room: &mut [u8],
-    place: usize,
-    code: u8,
-    text: &[u8],
-) -> Written
+pub fn sindovaleph_write_text(room: &mut [u8], place: usize, code: u8, text: &[u8]) -> Written
     ensures { WroteValue 10 (raw text.now) code room.old room.new place result }
 {
     crossing::written_of(typed::write_text(room, place, code, text), place)
 }
 
 // A node type by its byte, which is written as it stands.
-pub fn sindovaleph_write_node_type(
-    room: &mut [u8],
-    place: usize,
-    code: u8,
-    byte: u8,
-) -> Written
+pub fn sindovaleph_write_node_type(room: &mut [u8], place: usize, code: u8, byte: u8) -> Written
     ensures { WroteValue 12 (natural byte) code room.old room.new place result }
 {
     crossing::written_of(
@@ -109,12 +69,7 @@ pub fn sindovaleph_write_node_type(
 }
 
 // A message type.
-pub fn sindovaleph_write_message_type(
-    room: &mut [u8],
-    place: usize,
-    code: u8,
-    byte: u8,
-) -> Written
+pub fn sindovaleph_write_message_type(room: &mut [u8], place: usize, code: u8, byte: u8) -> Written
     ensures { WroteValue 13 (natural byte) code room.old room.new place result }
 {
     crossing::written_of(typed::write_message_type(room, place, code, byte), place)
@@ -169,35 +124,21 @@ pub fn sindovaleph_write_pairs(
 }
 
 // Numbers of two bytes.
-pub fn sindovaleph_write_u16s(
-    room: &mut [u8],
-    place: usize,
-    code: u8,
-    u16s: &[u16],
-) -> Written
+pub fn sindovaleph_write_u16s(room: &mut [u8], place: usize, code: u8, u16s: &[u16]) -> Written
     ensures { WroteValue 7 (numbers u16s.now) code room.old room.new place result }
 {
     crossing::written_of(lists::write_u16s(room, place, code, u16s), place)
 }
 
 // Codes of options.
-pub fn sindovaleph_write_codes(
-    room: &mut [u8],
-    place: usize,
-    code: u8,
-    codes: &[u8],
-) -> Written
+pub fn sindovaleph_write_codes(room: &mut [u8], place: usize, code: u8, codes: &[u8]) -> Written
     ensures { WroteValue 11 (numbers codes.now) code room.old room.new place result }
 {
     crossing::written_of(typed::write_codes(room, place, code, codes), place)
 }
 
 // The lent table of classless routes.
-pub fn sindovaleph_write_routes(
-    room: &mut [u8],
-    place: usize,
-    routes: &[Route],
-) -> Written
+pub fn sindovaleph_write_routes(room: &mut [u8], place: usize, routes: &[Route]) -> Written
     ensures { Wrote (write_routes (rows_of routes.now) room.old place)
         room.old room.new place result }
 {

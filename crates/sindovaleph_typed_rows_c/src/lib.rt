@@ -1,5 +1,6 @@
 // What programs in Rust and in C call of `sindovaleph_typed_rows`: each function of it, with its clauses, by its name and C's convention.
 #![tactic(auto)]
+
 ghost use Rattle.values.specs.Reading.{mode_of};
 ghost use Rattle.sindovaleph_rows.specs.Listing.{Lists, typed};
 

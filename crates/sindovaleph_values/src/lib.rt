@@ -1,6 +1,7 @@
 // The boundary to programs in Rust and in C, for a value read by its code. Nothing else in this archive reads one or asks for a code's kind,
 // so the compiler makes one piece of it; `sindovaleph_elements` reads an element of a list.
 #![tactic(auto)]
+
 ghost use Rattle.std.specs.Prelude.{◌≡◌};
 ghost use Rattle.rfc.specs.Values.{read};
 ghost use Rattle.values.specs.Reading.{mode_of};

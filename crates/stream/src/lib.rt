@@ -1,6 +1,7 @@
 // Messages out of a stream over TCP (RFC 6926, section 6.1): in front of each stands its size, two bytes. The stream comes in chunks that are
 // cut anywhere; a frame is gathered at the front of a lent buffer, and handed out at its last byte.
 #![tactic(auto)]
+
 ghost use Rattle.std.specs.Prelude.{◌≤◌, ◌≡◌, length, drop};
 ghost use Rattle.rfc.specs.Stream as rfc;
 ghost use Rattle.stream.specs.Streamed.{stands_at, taken_of, handed_over, Took};

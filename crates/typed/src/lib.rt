@@ -2,6 +2,7 @@
 // lent room and a place. Here are the kinds that hold one thing, and codes of options, which are cut as bytes are; the crate
 // `lists` has the other lists.
 #![tactic(auto)]
+
 pub mod checks;
 
 ghost use Rattle.std.specs.Prelude.{◌≡◌, cond, [], ◌∷◌};

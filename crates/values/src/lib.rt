@@ -1,5 +1,6 @@
 // The typed reading of an option's value, by the kind of its code: plain, as the crate reads it, and strict.
 #![tactic(auto)]
+
 pub mod answer;
 mod rules;
 

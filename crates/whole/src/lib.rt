@@ -1,5 +1,6 @@
 // The typed reading of a whole option: it starts from what a step of the walk answered.
 #![tactic(auto)]
+
 ghost use Rattle.rfc.specs.Values.{read_option};
 ghost use Rattle.values.specs.Reading.{mode_of};
 ghost use Rattle.borrowed.specs.Walked.{says};

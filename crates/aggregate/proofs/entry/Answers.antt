@@ -10,5 +10,5 @@ returns-in-Refused c = entry_closed _ _ _ (told _ c.overload.ensures c.in-Refuse
 pub returns-in-Is : goal.returns-in-Is
 returns-in-Is c =
     let reads : Open c.args.message.now c.in-Is.named =
-        told _ c.overload.ensures c.in-Is.is in
+    told _ c.overload.ensures c.in-Is.is in
     entry_open _ _ _ reads c.code_at.ensures c.option.ensures

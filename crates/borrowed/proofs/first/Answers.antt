@@ -33,37 +33,37 @@ returns-then-len-last c =
 pub returns-then-area-to : goal.returns-then-area-to
 returns-then-area-to c =
     let starts : Starts c.args.area.now c.args.place =
-        record {
-          small = omega arith;
-          inside = omega arith;
-          other = c.if-code-eq0.false;
-          goes_on = c.if-code.false;
-          within = omega arith;
-        } in
+    record {
+      small = omega arith;
+      inside = omega arith;
+      other = c.if-code-eq0.false;
+      goes_on = c.if-code.false;
+      within = omega arith;
+    } in
     first_several _ _ (record { starts = starts; inside = c.if-to-size.true; same = c.if-area-to.true })
 
 pub returns-else-area-to : goal.returns-else-area-to
 returns-else-area-to c =
     let starts : Starts c.args.area.now c.args.place =
-        record {
-          small = omega arith;
-          inside = omega arith;
-          other = c.if-code-eq0.false;
-          goes_on = c.if-code.false;
-          within = omega arith;
-        } in
+    record {
+      small = omega arith;
+      inside = omega arith;
+      other = c.if-code-eq0.false;
+      goes_on = c.if-code.false;
+      within = omega arith;
+    } in
     let s = starts in
     first_told _ _ (omega arith) s.other (starts_alone s (further_other_at _ _ _ c.if-to-size.true c.if-area-to.false))
 
 pub returns-else-to-size : goal.returns-else-to-size
 returns-else-to-size c =
     let starts : Starts c.args.area.now c.args.place =
-        record {
-          small = omega arith;
-          inside = omega arith;
-          other = c.if-code-eq0.false;
-          goes_on = c.if-code.false;
-          within = omega arith;
-        } in
+    record {
+      small = omega arith;
+      inside = omega arith;
+      other = c.if-code-eq0.false;
+      goes_on = c.if-code.false;
+      within = omega arith;
+    } in
     let s = starts in
     first_told _ _ (omega arith) s.other (starts_alone s (further_none_at _ _ _ c.if-to-size.false))

@@ -29,25 +29,25 @@ returns-then-len-area c =
 pub returns-then-next-area : goal.returns-then-next-area
 returns-then-next-area c =
     let starts : Starts c.args.area.now c.args.at =
-        let inside = c.if-at-area.false in
-        record {
-          small = c.requires.small;
-          inside = inside;
-          other = c.requires.other inside;
-          goes_on = c.if-code.false;
-          within = omega arith;
-        } in
+    let inside = c.if-at-area.false in
+    record {
+      small = c.requires.small;
+      inside = inside;
+      other = c.requires.other inside;
+      goes_on = c.if-code.false;
+      within = omega arith;
+    } in
     starts_alone starts (further_none_at _ _ _ c.if-next-area.true)
 
 pub returns-then-area-next : goal.returns-then-area-next
 returns-then-area-next c =
     let starts : Starts c.args.area.now c.args.at =
-        let inside = c.if-at-area.false in
-        record {
-          small = c.requires.small;
-          inside = inside;
-          other = c.requires.other inside;
-          goes_on = c.if-code.false;
-          within = omega arith;
-        } in
+    let inside = c.if-at-area.false in
+    record {
+      small = c.requires.small;
+      inside = inside;
+      other = c.requires.other inside;
+      goes_on = c.if-code.false;
+      within = omega arith;
+    } in
     starts_alone starts (further_other_at _ _ _ c.if-next-area.false c.if-area-next.true)

@@ -1,7 +1,6 @@
 -- `scan_rows` meets its contract: the rows from where the loop stands give, from what it has so far, the scan of all.
 -- Assumes nothing.
 use mathlib.Core.Path.{◌≡◌, sym, ap, ◌∙◌}
-use mathlib.Core.Logic.{⊎_elim}
 use mathlib.Core.List.{[], foldl}
 use native.Mathlib.Omega.{arith}
 use lib.ListN.{drop, drop_of_length-le}
@@ -64,9 +63,9 @@ loop-at-preserved c =
       omega (arith, far.0),
       scan_goes a.index l.count l.kept a.value.now l.at row.result n (omega arith) c.if-count-index.kept
           (elim c.if-count-index.branch [
-            then-count-index w ↦
+            | then-count-index w ↦
                 w.kept-is ∙ ap unplaced (n.is (omega arith)) ∙ sym (kept_here a.index l.count n.row.route l.kept w.if-count-index.true)
-          | else-count-index w ↦ w.kept-is ∙ sym (kept_other a.index l.count n.row.route l.kept w.if-count-index.false)
+            | else-count-index w ↦ w.kept-is ∙ sym (kept_other a.index l.count n.row.route l.kept w.if-count-index.false)
           ])
           ∙ l.invariant.3,
     )

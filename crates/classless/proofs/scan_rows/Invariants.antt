@@ -2,7 +2,7 @@
 -- Assumes nothing.
 use mathlib.Core.Path.{◌≡◌}
 use Prim.Native.Nat.{◌-◌, ◌≤◌}
-use mathlib.Core.List.{[], foldl}
+use mathlib.Core.List.{foldl}
 use lib.ListN.{length, drop}
 use Rattle.rfc.specs.Classless.{route_rows}
 use Rattle.classless.specs.Rows.{seen_so, seen, scanned}

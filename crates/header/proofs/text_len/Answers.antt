@@ -10,8 +10,8 @@ use Rattle.header.proofs.text_len.Goals as goal
 pub overflow_cast-result : goal.overflow_cast-result
 overflow_cast-result c =
     let counted : let a = c.args in c.until_zero.result ≡ until_zero (bytes_of (part a.start a.size) a.message.now) =
-        let a = c.args in
-        let n : a.start + a.size - a.start ≡ a.size = omega arith in
-        rw n at c.until_zero.ensures in
+    let a = c.args in
+    let n : a.start + a.size - a.start ≡ a.size = omega arith in
+    rw n at c.until_zero.ensures in
     let a = c.args in
     omega (arith, counted, text_within (part a.start a.size) a.message.now)

@@ -23,9 +23,9 @@ returns-then-start-gt0 c =
 pub returns-then-turned-gt0 : goal.returns-then-turned-gt0
 returns-then-turned-gt0 c =
     let settled : let a = c.args in Settled (move_back a.value.now a.room.now a.place) 248 pairs_code (back_rows a.value.now) a.room.now a.place c.turn_over-turned.result =
-        let a = c.args in
-        back_settled a.value.now a.room.now a.place c.if-value-gt-MOST_BYTES.false c.begin-start.result c.begin-start.ensures c.if-start-gt0.false
-        c.measure_back-measured.result c.turn_over-turned.result c.measure_back-measured.ensures c.turn_over-turned.ensures in
+    let a = c.args in
+    back_settled a.value.now a.room.now a.place c.if-value-gt-MOST_BYTES.false c.begin-start.result c.begin-start.ensures c.if-start-gt0.false
+    c.measure_back-measured.result c.turn_over-turned.result c.measure_back-measured.ensures c.turn_over-turned.ensures in
     let a = c.args in
     let v = a.value.now in
     let room = a.room.now in
@@ -35,9 +35,9 @@ returns-then-turned-gt0 c =
 pub put_back-written-requires : goal.put_back-written-requires
 put_back-written-requires c =
     let settled : let a = c.args in Settled (move_back a.value.now a.room.now a.place) 248 pairs_code (back_rows a.value.now) a.room.now a.place c.turn_over-turned.result =
-        let a = c.args in
-        back_settled a.value.now a.room.now a.place c.if-value-gt-MOST_BYTES.false c.begin-start.result c.begin-start.ensures c.if-start-gt0.false
-        c.measure_back-measured.result c.turn_over-turned.result c.measure_back-measured.ensures c.turn_over-turned.ensures in
+    let a = c.args in
+    back_settled a.value.now a.room.now a.place c.if-value-gt-MOST_BYTES.false c.begin-start.result c.begin-start.ensures c.if-start-gt0.false
+    c.measure_back-measured.result c.turn_over-turned.result c.measure_back-measured.ensures c.turn_over-turned.ensures in
     let a = c.args in (
       c.if-value-gt-MOST_BYTES.false,
       back_given a.value.now a.room.now a.place c.turn_over-turned.result settled c.if-turned-gt0.false,
@@ -46,9 +46,9 @@ put_back-written-requires c =
 pub returns : goal.returns
 returns c =
     let settled : let a = c.args in Settled (move_back a.value.now a.room.now a.place) 248 pairs_code (back_rows a.value.now) a.room.now a.place c.turn_over-turned.result =
-        let a = c.args in
-        back_settled a.value.now a.room.now a.place c.if-value-gt-MOST_BYTES.false c.begin-start.result c.begin-start.ensures c.if-start-gt0.false
-        c.measure_back-measured.result c.turn_over-turned.result c.measure_back-measured.ensures c.turn_over-turned.ensures in
+    let a = c.args in
+    back_settled a.value.now a.room.now a.place c.if-value-gt-MOST_BYTES.false c.begin-start.result c.begin-start.ensures c.if-start-gt0.false
+    c.measure_back-measured.result c.turn_over-turned.result c.measure_back-measured.ensures c.turn_over-turned.ensures in
     let puts = c.put_back-written in
     let a = c.args in
     let v = a.value.now in

@@ -31,10 +31,10 @@ returns-then-value-gt0 c =
 pub returns-then-turned-gt0 : goal.returns-then-turned-gt0
 returns-then-turned-gt0 c =
     let settled : let a = c.args in Settled (move_out a.value.now a.room.now a.place) most_part routes_code (out_rows a.value.now) a.room.now a.place c.turn_over-turned.result =
-        let a = c.args in
-        out_settled a.value.now a.room.now a.place c.if-value-gt-MOST_BYTES.false c.begin-start.result c.begin-start.ensures c.if-start-gt0.false
-        (omega (arith, c.if-value-gt0.false)) c.measure_out-measured.result c.turn_over-turned.result
-        c.measure_out-measured.ensures c.turn_over-turned.ensures in
+    let a = c.args in
+    out_settled a.value.now a.room.now a.place c.if-value-gt-MOST_BYTES.false c.begin-start.result c.begin-start.ensures c.if-start-gt0.false
+    (omega (arith, c.if-value-gt0.false)) c.measure_out-measured.result c.turn_over-turned.result
+    c.measure_out-measured.ensures c.turn_over-turned.ensures in
     let a = c.args in
     let v = a.value.now in
     let room = a.room.now in
@@ -44,10 +44,10 @@ returns-then-turned-gt0 c =
 pub returns : goal.returns
 returns c =
     let settled : let a = c.args in Settled (move_out a.value.now a.room.now a.place) most_part routes_code (out_rows a.value.now) a.room.now a.place c.turn_over-turned.result =
-        let a = c.args in
-        out_settled a.value.now a.room.now a.place c.if-value-gt-MOST_BYTES.false c.begin-start.result c.begin-start.ensures c.if-start-gt0.false
-        (omega (arith, c.if-value-gt0.false)) c.measure_out-measured.result c.turn_over-turned.result
-        c.measure_out-measured.ensures c.turn_over-turned.ensures in
+    let a = c.args in
+    out_settled a.value.now a.room.now a.place c.if-value-gt-MOST_BYTES.false c.begin-start.result c.begin-start.ensures c.if-start-gt0.false
+    (omega (arith, c.if-value-gt0.false)) c.measure_out-measured.result c.turn_over-turned.result
+    c.measure_out-measured.ensures c.turn_over-turned.ensures in
     let puts = c.put_out-written in
     let a = c.args in
     let v = a.value.now in

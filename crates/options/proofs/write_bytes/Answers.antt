@@ -29,13 +29,13 @@ returns-then-value-gt-MOST_VALUE c =
 pub returns-then-value-gt-MOST_PART : goal.returns-then-value-gt-MOST_PART
 returns-then-value-gt-MOST_PART c =
     let passed : let a = c.args in Alike (write_slice (encode most_part a.code a.value.now) a.room.now a.place) (write_bytes a.code a.value.now a.room.now a.place) a.room.now a.place =
-        bytes_slice _ _ _ _ c.if-room-gt-MOST_BYTES.false c.if-place-room.false c.if-code-eq0.false
-        c.if-code-eq255.false c.if-value-gt-MOST_VALUE.false in
+    bytes_slice _ _ _ _ c.if-room-gt-MOST_BYTES.false c.if-place-room.false c.if-code-eq0.false
+    c.if-code-eq255.false c.if-value-gt-MOST_VALUE.false in
     same_wrote passed c.write_parts.ensures
 
 pub returns : goal.returns
 returns c =
     let passed : let a = c.args in Alike (write_slice (encode most_part a.code a.value.now) a.room.now a.place) (write_bytes a.code a.value.now a.room.now a.place) a.room.now a.place =
-        bytes_slice _ _ _ _ c.if-room-gt-MOST_BYTES.false c.if-place-room.false c.if-code-eq0.false
-        c.if-code-eq255.false c.if-value-gt-MOST_VALUE.false in
+    bytes_slice _ _ _ _ c.if-room-gt-MOST_BYTES.false c.if-place-room.false c.if-code-eq0.false
+    c.if-code-eq255.false c.if-value-gt-MOST_VALUE.false in
     same_wrote passed c.write_part.ensures

@@ -13,18 +13,18 @@ use Rattle.options.proofs.write_parts.Goals as goal
 pub returns-then-size-room : goal.returns-then-size-room
 returns-then-size-room c =
     let size : let a = c.args in length (encode most_part a.code a.value.now) ≡ c.size_in_parts-size.result =
-        length_encode most_part (lit< tt) _ _ ∙ sym c.size_in_parts-size.ensures in
+    length_encode most_part (lit< tt) _ _ ∙ sym c.size_in_parts-size.ensures in
     no_room _ _ _ c.requires.0 (omega (arith, size))
 
 pub put_parts-requires : goal.put_parts-requires
 put_parts-requires c =
     let size : let a = c.args in length (encode most_part a.code a.value.now) ≡ c.size_in_parts-size.result =
-        length_encode most_part (lit< tt) _ _ ∙ sym c.size_in_parts-size.ensures in
+    length_encode most_part (lit< tt) _ _ ∙ sym c.size_in_parts-size.ensures in
     omega (arith, size)
 
 pub returns : goal.returns
 returns c =
     let size : let a = c.args in length (encode most_part a.code a.value.now) ≡ c.size_in_parts-size.result =
-        length_encode most_part (lit< tt) _ _ ∙ sym c.size_in_parts-size.ensures in
+    length_encode most_part (lit< tt) _ _ ∙ sym c.size_in_parts-size.ensures in
     let size = size in
     puts _ _ _ (omega arith) _ (omega arith) c.put_parts.ensures

@@ -20,27 +20,27 @@ returns-in-Ended c =
 pub put_part-codes-requires : goal.put_part-codes-requires
 put_part-codes-requires c =
     let field : List ℕ =
-        c.args.bytes.now in
+    c.args.bytes.now in
     let bytes : Bytes field =
-        bytes_known field (λ i. omega (arith, c.shared_slice_known-1.given i)) in
+    bytes_known field (λ i. omega (arith, c.shared_slice_known-1.given i)) in
     let found : FirstLeft field c.loop-code.at c.loop-code.invariant.parts c.in-Part.code c.in-Part.len c.in-Part.place =
-        first_left _ c.loop-code.at _ c.loop-code.invariant.left _ c.portion_at.ensures c.in-Part.is in
+    first_left _ c.loop-code.at _ c.loop-code.invariant.left _ c.portion_at.ensures c.in-Part.is in
     going_puts c.loop-code.invariant bytes found
 
 pub loop-code-smaller : goal.loop-code-smaller
 loop-code-smaller c =
     let field : List ℕ =
-        c.args.bytes.now in
+    c.args.bytes.now in
     let found : FirstLeft field c.loop-code.at c.loop-code.invariant.parts c.in-Part.code c.in-Part.len c.in-Part.place =
-        first_left _ c.loop-code.at _ c.loop-code.invariant.left _ c.portion_at.ensures c.in-Part.is in
+    first_left _ c.loop-code.at _ c.loop-code.invariant.left _ c.portion_at.ensures c.in-Part.is in
     let f = found in omega (arith, f.behind, f.within)
 
 pub loop-code-preserved : goal.loop-code-preserved
 loop-code-preserved c =
     let field : List ℕ =
-        c.args.bytes.now in
+    c.args.bytes.now in
     let bytes : Bytes field =
-        bytes_known field (λ i. omega (arith, c.shared_slice_known-1.given i)) in
+    bytes_known field (λ i. omega (arith, c.shared_slice_known-1.given i)) in
     let found : FirstLeft field c.loop-code.at c.loop-code.invariant.parts c.in-Part.code c.in-Part.len c.in-Part.place =
-        first_left _ c.loop-code.at _ c.loop-code.invariant.left _ c.portion_at.ensures c.in-Part.is in
+    first_left _ c.loop-code.at _ c.loop-code.invariant.left _ c.portion_at.ensures c.in-Part.is in
     going_more c.loop-code.invariant bytes found _ c.put_part-codes.ensures c.put_part-codes.auto.rows

@@ -10,9 +10,9 @@ pub returns-then-mark-eq0 : goal.returns-then-mark-eq0
 returns-then-mark-eq0 c =
     let there = c.requires.holds.each in
     elim c.if-codes-rows.branch [
-      then-codes-rows w ↦
+      | then-codes-rows w ↦
           puts_first _ _ _ _ _ _ c.if-mark-eq0.true (omega arith) c.if-codes-rows.rows w.if-codes-rows.true (w.rows-is ∙ w.put_row.ensures)
-    | else-codes-rows w ↦ puts_counted _ _ _ _ _ _ c.if-mark-eq0.true (omega arith) c.if-codes-rows.rows w.if-codes-rows.false w.rows-is
+      | else-codes-rows w ↦ puts_counted _ _ _ _ _ _ c.if-mark-eq0.true (omega arith) c.if-codes-rows.rows w.if-codes-rows.false w.rows-is
     ]
 
 pub extend_row-requires : goal.extend_row-requires

@@ -11,5 +11,5 @@ returns-in-Refused c = lists_refused _ _ (told _ c.overload.ensures c.in-Refused
 pub returns-in-Is : goal.returns-in-Is
 returns-in-Is c =
     let reads : Open c.args.message.now c.in-Is.named =
-        told _ c.overload.ensures c.in-Is.is in
+    told _ c.overload.ensures c.in-Is.is in
     lists_given _ _ reads c.fill_all.ensures

@@ -12,27 +12,27 @@ use Rattle.values.proofs.entry.Goals as goal
 pub overflow_mul-at : goal.overflow_mul-at
 overflow_mul-at c =
     let inside : let a = c.args in a.index * c.element_size-size.result + c.element_size-size.result ≤ length a.value.now =
-        within c.requires c.element_size-size.ensures in
+    within c.requires c.element_size-size.ensures in
     record { fits = omega (arith, inside) }
 
 pub overflow_add-bytes : goal.overflow_add-bytes
 overflow_add-bytes c =
     let inside : let a = c.args in a.index * c.element_size-size.result + c.element_size-size.result ≤ length a.value.now =
-        within c.requires c.element_size-size.ensures in
+    within c.requires c.element_size-size.ensures in
     record { fits = omega (arith, inside) }
 
 pub slice_bounds-bytes-end : goal.slice_bounds-bytes-end
 slice_bounds-bytes-end c =
     let inside : let a = c.args in a.index * c.element_size-size.result + c.element_size-size.result ≤ length a.value.now =
-        within c.requires c.element_size-size.ensures in
+    within c.requires c.element_size-size.ensures in
     omega (arith, inside)
 
 pub bounds-value-at : goal.bounds-value-at
 bounds-value-at c =
     let coded : c.args.kind ≡ 11 =
-        let n = c.in_default.in_default-own.rest in last_kind c.requires.is_list n.0.0.1 n.0.1 n.1 in
+    let n = c.in_default.in_default-own.rest in last_kind c.requires.is_list n.0.0.1 n.0.1 n.1 in
     let code_lies : let a = c.args in a.index * c.element_size-size.result + 1 ≤ length a.value.now =
-        lies c.requires coded codes c.element_size-size.ensures in
+    lies c.requires coded codes c.element_size-size.ensures in
     omega (arith, code_lies)
 
 pub returns-in-2 : goal.returns-in-2
@@ -54,7 +54,7 @@ returns-in-7 c = let is = c.in-7.is in
 pub returns-in_default : goal.returns-in_default
 returns-in_default c =
     let coded : c.args.kind ≡ 11 =
-        let n = c.in_default.in_default-own.rest in last_kind c.requires.is_list n.0.0.1 n.0.1 n.1 in
+    let n = c.in_default.in_default-own.rest in last_kind c.requires.is_list n.0.0.1 n.0.1 n.1 in
     let code_lies : let a = c.args in a.index * c.element_size-size.result + 1 ≤ length a.value.now =
-        lies c.requires coded codes c.element_size-size.ensures in
+    lies c.requires coded codes c.element_size-size.ensures in
     one c.requires c.element_size-size.ensures coded codes _ (byte_at _ _ code_lies)

@@ -29,38 +29,38 @@ wrong_length-requires c = omega (arith, kind_below c.args.code)
 pub returns-then-wrong_length : goal.returns-then-wrong_length
 returns-then-wrong_length c =
     let short : length c.args.value.now ≤ most_bytes =
-        c.if-value-gt-MOST_BYTES.false in
+    c.if-value-gt-MOST_BYTES.false in
     let some : no_code c.args.code ≡ false =
-        a_code _ c.if-code-eq0.false c.if-code-eq255.false in
+    a_code _ c.if-code-eq0.false c.if-code-eq255.false in
     sym (read_10 _ _ _ short some c.kind_of-kind.ensures
     (rw (← c.length_strict.ensures) (sym c.wrong_length.ensures ∙ c.if-wrong_length.true)))
 
 pub returns-then-not_text : goal.returns-then-not_text
 returns-then-not_text c =
     let short : length c.args.value.now ≤ most_bytes =
-        c.if-value-gt-MOST_BYTES.false in
+    c.if-value-gt-MOST_BYTES.false in
     let some : no_code c.args.code ≡ false =
-        a_code _ c.if-code-eq0.false c.if-code-eq255.false in
+    a_code _ c.if-code-eq0.false c.if-code-eq255.false in
     let right : wrong_length (length_mode (mode_of c.args.strict) c.args.code) c.kind_of-kind.result c.args.value.now ≡ false =
-        rw (← c.length_strict.ensures) (sym c.wrong_length.ensures ∙ c.if-wrong_length.false) in
+    rw (← c.length_strict.ensures) (sym c.wrong_length.ensures ∙ c.if-wrong_length.false) in
     sym (read_11 _ _ _ short some c.kind_of-kind.ensures right (sym c.not_text.ensures ∙ c.if-not_text.true))
 
 pub returns-then-unclear : goal.returns-then-unclear
 returns-then-unclear c =
     let short : length c.args.value.now ≤ most_bytes =
-        c.if-value-gt-MOST_BYTES.false in
+    c.if-value-gt-MOST_BYTES.false in
     let some : no_code c.args.code ≡ false =
-        a_code _ c.if-code-eq0.false c.if-code-eq255.false in
+    a_code _ c.if-code-eq0.false c.if-code-eq255.false in
     let right : wrong_length (length_mode (mode_of c.args.strict) c.args.code) c.kind_of-kind.result c.args.value.now ≡ false =
-        rw (← c.length_strict.ensures) (sym c.wrong_length.ensures ∙ c.if-wrong_length.false) in
+    rw (← c.length_strict.ensures) (sym c.wrong_length.ensures ∙ c.if-wrong_length.false) in
     let text : not_text c.kind_of-kind.result c.args.value.now ≡ false =
-        sym c.not_text.ensures ∙ c.if-not_text.false in
+    sym c.not_text.ensures ∙ c.if-not_text.false in
     sym (read_14 _ _ _ short some c.kind_of-kind.ensures right text (sym c.unclear.ensures ∙ c.if-unclear.true))
 
 pub value_of-requires : goal.value_of-requires
 value_of-requires c =
     let right : wrong_length (length_mode (mode_of c.args.strict) c.args.code) c.kind_of-kind.result c.args.value.now ≡ false =
-        rw (← c.length_strict.ensures) (sym c.wrong_length.ensures ∙ c.if-wrong_length.false) in
+    rw (← c.length_strict.ensures) (sym c.wrong_length.ensures ∙ c.if-wrong_length.false) in
     record {
       is_kind = omega (arith, kind_below c.args.code);
       length_right = judged_plain (mode_of c.args.strict) c.args.code _ _ right;
@@ -69,13 +69,13 @@ value_of-requires c =
 pub returns : goal.returns
 returns c =
     let short : length c.args.value.now ≤ most_bytes =
-        c.if-value-gt-MOST_BYTES.false in
+    c.if-value-gt-MOST_BYTES.false in
     let some : no_code c.args.code ≡ false =
-        a_code _ c.if-code-eq0.false c.if-code-eq255.false in
+    a_code _ c.if-code-eq0.false c.if-code-eq255.false in
     let right : wrong_length (length_mode (mode_of c.args.strict) c.args.code) c.kind_of-kind.result c.args.value.now ≡ false =
-        rw (← c.length_strict.ensures) (sym c.wrong_length.ensures ∙ c.if-wrong_length.false) in
+    rw (← c.length_strict.ensures) (sym c.wrong_length.ensures ∙ c.if-wrong_length.false) in
     let text : not_text c.kind_of-kind.result c.args.value.now ≡ false =
-        sym c.not_text.ensures ∙ c.if-not_text.false in
+    sym c.not_text.ensures ∙ c.if-not_text.false in
     same_answer
     (read_given _ _ _ short some c.kind_of-kind.ensures right text
     (sym c.unclear.ensures ∙ c.if-unclear.false))

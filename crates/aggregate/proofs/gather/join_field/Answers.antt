@@ -15,8 +15,7 @@ returns-in-Ended c = joined_all c.loop-c.invariant _ c.portion_at.ensures c.in-E
 
 pub overflow_add-end : goal.overflow_add-end
 overflow_add-end c =
-    let fits : (c.loop-c.end + c.in-Part.n ≤ length c.loop-c.join) × (length c.loop-c.join ≡ length c.args.join.now) =
-        (
+    let fits : (c.loop-c.end + c.in-Part.n ≤ length c.loop-c.join) × (length c.loop-c.join ≡ length c.args.join.now) = (
       part_fits c.loop-c.invariant _ c.portion_at.ensures c.in-Part.is c.if-c-code.true,
       join_long c.loop-c.invariant,
     ) in
@@ -24,8 +23,7 @@ overflow_add-end c =
 
 pub slice_bounds-write_slice-end : goal.slice_bounds-write_slice-end
 slice_bounds-write_slice-end c =
-    let fits : (c.loop-c.end + c.in-Part.n ≤ length c.loop-c.join) × (length c.loop-c.join ≡ length c.args.join.now) =
-        (
+    let fits : (c.loop-c.end + c.in-Part.n ≤ length c.loop-c.join) × (length c.loop-c.join ≡ length c.args.join.now) = (
       part_fits c.loop-c.invariant _ c.portion_at.ensures c.in-Part.is c.if-c-code.true,
       join_long c.loop-c.invariant,
     ) in
@@ -34,19 +32,19 @@ slice_bounds-write_slice-end c =
 pub overflow_sub-place : goal.overflow_sub-place
 overflow_sub-place c =
     let within : (c.loop-c.at + 2 + c.in-Part.n ≤ c.in-Part.place) × (c.in-Part.place ≤ length c.args.bytes.now) =
-        part_within c.loop-c.invariant _ c.portion_at.ensures c.in-Part.is in
+    part_within c.loop-c.invariant _ c.portion_at.ensures c.in-Part.is in
     omega (arith, within)
 
 pub slice_bounds-write_slice-end-then-c-code : goal.slice_bounds-write_slice-end-then-c-code
 slice_bounds-write_slice-end-then-c-code c =
     let within : (c.loop-c.at + 2 + c.in-Part.n ≤ c.in-Part.place) × (c.in-Part.place ≤ length c.args.bytes.now) =
-        part_within c.loop-c.invariant _ c.portion_at.ensures c.in-Part.is in
+    part_within c.loop-c.invariant _ c.portion_at.ensures c.in-Part.is in
     omega (arith, within)
 
 pub loop-c-smaller-then-c-code : goal.loop-c-smaller-then-c-code
 loop-c-smaller-then-c-code c =
     let within : (c.loop-c.at + 2 + c.in-Part.n ≤ c.in-Part.place) × (c.in-Part.place ≤ length c.args.bytes.now) =
-        part_within c.loop-c.invariant _ c.portion_at.ensures c.in-Part.is in
+    part_within c.loop-c.invariant _ c.portion_at.ensures c.in-Part.is in
     omega (arith, within)
 
 pub loop-c-preserved-then-c-code : goal.loop-c-preserved-then-c-code
@@ -57,7 +55,7 @@ loop-c-preserved-then-c-code c =
 pub loop-c-smaller : goal.loop-c-smaller
 loop-c-smaller c =
     let within : (c.loop-c.at + 2 + c.in-Part.n ≤ c.in-Part.place) × (c.in-Part.place ≤ length c.args.bytes.now) =
-        part_within c.loop-c.invariant _ c.portion_at.ensures c.in-Part.is in
+    part_within c.loop-c.invariant _ c.portion_at.ensures c.in-Part.is in
     omega (arith, within)
 
 pub loop-c-preserved : goal.loop-c-preserved

@@ -2,7 +2,6 @@
 -- Assumes nothing.
 use Prim.Native.Nat.{◌+◌, ◌-◌, ◌≤◌}
 use mathlib.Core.Path.{◌≡◌}
-use mathlib.Core.List.{[]}
 use lib.ListN.{length, drop}
 use Rattle.rfc.specs.Portions.{portions}
 use Rattle.aggregate.specs.Tallies.{tally, counted}

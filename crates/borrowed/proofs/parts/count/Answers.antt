@@ -10,31 +10,31 @@ use Rattle.borrowed.proofs.parts.count.Goals as goal
 pub overflow_add-result : goal.overflow_add-result
 overflow_add-result c =
     let told : Whole c.in-Whole.parts c.in-Whole.more ≡ size_of (more c.requires.starts) =
-        sym c.in-Whole.is ∙ c.scan.ensures in
+    sym c.in-Whole.is ∙ c.scan.ensures in
     omega (arith, starts_ends c.requires.starts told)
 
 pub overflow_add-result-in-Whole : goal.overflow_add-result-in-Whole
 overflow_add-result-in-Whole c =
     let told : Whole c.in-Whole.parts c.in-Whole.more ≡ size_of (more c.requires.starts) =
-        sym c.in-Whole.is ∙ c.scan.ensures in
+    sym c.in-Whole.is ∙ c.scan.ensures in
     omega (arith, starts_ends c.requires.starts told)
 
 pub overflow_mul-result : goal.overflow_mul-result
 overflow_mul-result c =
     let told : Whole c.in-Whole.parts c.in-Whole.more ≡ size_of (more c.requires.starts) =
-        sym c.in-Whole.is ∙ c.scan.ensures in
+    sym c.in-Whole.is ∙ c.scan.ensures in
     omega (arith, starts_ends c.requires.starts told)
 
 pub overflow_add-result-in-Whole-2 : goal.overflow_add-result-in-Whole-2
 overflow_add-result-in-Whole-2 c =
     let told : Whole c.in-Whole.parts c.in-Whole.more ≡ size_of (more c.requires.starts) =
-        sym c.in-Whole.is ∙ c.scan.ensures in
+    sym c.in-Whole.is ∙ c.scan.ensures in
     omega (arith, starts_ends c.requires.starts told)
 
 pub overflow_add-result-in-Whole-3 : goal.overflow_add-result-in-Whole-3
 overflow_add-result-in-Whole-3 c =
     let told : Whole c.in-Whole.parts c.in-Whole.more ≡ size_of (more c.requires.starts) =
-        sym c.in-Whole.is ∙ c.scan.ensures in
+    sym c.in-Whole.is ∙ c.scan.ensures in
     omega (arith, starts_ends c.requires.starts told)
 
 pub returns-in-Cut : goal.returns-in-Cut
@@ -44,5 +44,5 @@ returns-in-Cut c =
 pub returns-in-Whole : goal.returns-in-Whole
 returns-in-Whole c =
     let told : Whole c.in-Whole.parts c.in-Whole.more ≡ size_of (more c.requires.starts) =
-        sym c.in-Whole.is ∙ c.scan.ensures in
+    sym c.in-Whole.is ∙ c.scan.ensures in
     starts_whole c.requires.starts told

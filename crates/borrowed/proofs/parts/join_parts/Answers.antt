@@ -14,41 +14,41 @@ loop-i-init c = joined_none c.requires
 pub bounds-area-i : goal.bounds-area-i
 bounds-area-i c =
     let area : List ℕ =
-        c.args.area.now in
+    c.args.area.now in
     let n : ℕ =
-        get_or area (c.loop-i.i + 1) 0 in
+    get_or area (c.loop-i.i + 1) 0 in
     let fits : (behind area c.loop-i.i ≤ length area) × (c.loop-i.to + n ≤ length c.loop-i.join) =
-        part_fits c.loop-i.invariant c.loop-i-test.true in
+    part_fits c.loop-i.invariant c.loop-i-test.true in
     omega (arith, fits)
 
 pub overflow_add-i : goal.overflow_add-i
 overflow_add-i c =
     let area : List ℕ =
-        c.args.area.now in
+    c.args.area.now in
     let n : ℕ =
-        get_or area (c.loop-i.i + 1) 0 in
+    get_or area (c.loop-i.i + 1) 0 in
     let fits : (behind area c.loop-i.i ≤ length area) × (c.loop-i.to + n ≤ length c.loop-i.join) =
-        part_fits c.loop-i.invariant c.loop-i-test.true in
+    part_fits c.loop-i.invariant c.loop-i-test.true in
     omega (arith, fits)
 
 pub slice_bounds-write_slice-end : goal.slice_bounds-write_slice-end
 slice_bounds-write_slice-end c =
     let area : List ℕ =
-        c.args.area.now in
+    c.args.area.now in
     let n : ℕ =
-        get_or area (c.loop-i.i + 1) 0 in
+    get_or area (c.loop-i.i + 1) 0 in
     let fits : (behind area c.loop-i.i ≤ length area) × (c.loop-i.to + n ≤ length c.loop-i.join) =
-        part_fits c.loop-i.invariant c.loop-i-test.true in
+    part_fits c.loop-i.invariant c.loop-i-test.true in
     omega (arith, fits)
 
 pub slice_bounds-write_slice-end-then-n-ne0 : goal.slice_bounds-write_slice-end-then-n-ne0
 slice_bounds-write_slice-end-then-n-ne0 c =
     let area : List ℕ =
-        c.args.area.now in
+    c.args.area.now in
     let n : ℕ =
-        get_or area (c.loop-i.i + 1) 0 in
+    get_or area (c.loop-i.i + 1) 0 in
     let fits : (behind area c.loop-i.i ≤ length area) × (c.loop-i.to + n ≤ length c.loop-i.join) =
-        part_fits c.loop-i.invariant c.loop-i-test.true in
+    part_fits c.loop-i.invariant c.loop-i-test.true in
     omega (arith, fits)
 
 pub loop-i-preserved-then-n-ne0 : goal.loop-i-preserved-then-n-ne0

@@ -10,19 +10,19 @@ use Rattle.borrowed.proofs.parts.several.Goals as goal
 pub returns-then-len-join : goal.returns-then-len-join
 returns-then-len-join c =
     let found : Found c.in-Found.code c.in-Found.parts c.in-Found.len c.in-Found.place ≡ sizes (look c.args.area.now c.args.at) =
-        sym c.in-Found.is ∙ c.count.ensures in
+    sym c.in-Found.is ∙ c.count.ensures in
     passes_short c.requires found c.if-len-join.true
 
 pub join_parts-requires : goal.join_parts-requires
 join_parts-requires c =
     let found : Found c.in-Found.code c.in-Found.parts c.in-Found.len c.in-Found.place ≡ sizes (look c.args.area.now c.args.at) =
-        sym c.in-Found.is ∙ c.count.ensures in
+    sym c.in-Found.is ∙ c.count.ensures in
     parts_to c.requires found c.if-len-join.false
 
 pub returns-else-len-join : goal.returns-else-len-join
 returns-else-len-join c =
     let found : Found c.in-Found.code c.in-Found.parts c.in-Found.len c.in-Found.place ≡ sizes (look c.args.area.now c.args.at) =
-        sym c.in-Found.is ∙ c.count.ensures in
+    sym c.in-Found.is ∙ c.count.ensures in
     passes_joined c.requires found c.join_parts.ensures c.if-len-join.false
 
 pub returns-in-Stopped : goal.returns-in-Stopped

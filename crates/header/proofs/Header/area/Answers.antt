@@ -14,23 +14,23 @@ returns-then-refused-ne0 c = sym (area_refused _ (refused_by _ c.refusal_of-refu
 pub wrong_magic-requires : goal.wrong_magic-requires
 wrong_magic-requires c =
     let there : Whole c.args.message.now =
-        whole _ c.refusal_of-refused.ensures c.if-refused-ne0.false in
+    whole _ c.refusal_of-refused.ensures c.if-refused-ne0.false in
     there
 
 pub returns-then-wrong_magic : goal.returns-then-wrong_magic
 returns-then-wrong_magic c =
     let there : Whole c.args.message.now =
-        whole _ c.refusal_of-refused.ensures c.if-refused-ne0.false in
+    whole _ c.refusal_of-refused.ensures c.if-refused-ne0.false in
     sym (area_wrong _ (clear _ there) (not-true _ (sym c.wrong_magic.ensures ∙ c.if-wrong_magic.true)))
 
 pub overflow_sub-result : goal.overflow_sub-result
 overflow_sub-result c =
     let there : Whole c.args.message.now =
-        whole _ c.refusal_of-refused.ensures c.if-refused-ne0.false in
+    whole _ c.refusal_of-refused.ensures c.if-refused-ne0.false in
     omega (arith, there.least)
 
 pub returns : goal.returns
 returns c =
     let there : Whole c.args.message.now =
-        whole _ c.refusal_of-refused.ensures c.if-refused-ne0.false in
+    whole _ c.refusal_of-refused.ensures c.if-refused-ne0.false in
     sym (area_given _ (clear _ there) (not-false _ (sym c.wrong_magic.ensures ∙ c.if-wrong_magic.false)))

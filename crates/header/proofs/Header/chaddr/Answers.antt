@@ -13,18 +13,18 @@ returns-then-refused-ne0 c = sym (chaddr_refused _ (refused_by _ c.refusal_of-re
 pub chaddr_refusal-cut-requires : goal.chaddr_refusal-cut-requires
 chaddr_refusal-cut-requires c =
     let there : Whole c.args.message.now =
-        whole _ c.refusal_of-refused.ensures c.if-refused-ne0.false in
+    whole _ c.refusal_of-refused.ensures c.if-refused-ne0.false in
     there
 
 pub bounds-message-2 : goal.bounds-message-2
 bounds-message-2 c =
     let there : Whole c.args.message.now =
-        whole _ c.refusal_of-refused.ensures c.if-refused-ne0.false in
+    whole _ c.refusal_of-refused.ensures c.if-refused-ne0.false in
     omega (arith, there.least)
 
 pub returns : goal.returns
 returns c =
     let there : Whole c.args.message.now =
-        whole _ c.refusal_of-refused.ensures c.if-refused-ne0.false in
+    whole _ c.refusal_of-refused.ensures c.if-refused-ne0.false in
     rw (c.own_bytes.ensures, c.spills.ensures)
     (sym (cut_none _ there _ c.chaddr_refusal-cut.ensures c.if-cut-ne0.false))

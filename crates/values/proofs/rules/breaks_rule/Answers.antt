@@ -17,32 +17,32 @@ returns-then-rule-eq-AT_LEAST c = rw c.element_size-size.ensures (length_by _ _ 
 pub returns-then-value-eq0 : goal.returns-then-value-eq0
 returns-then-value-eq0 c =
     let rule : Rule =
-        let a = c.args in rule_for (mode_of a.strict) a.kind in
+    let a = c.args in rule_for (mode_of a.strict) a.kind in
     let not_exactly : rule_number rule ≡ 1 → ⊥ =
-        λ e. c.if-rule-eq-EXACTLY.false (c.rule_for-rule.ensures ∙ e) in
+    λ e. c.if-rule-eq-EXACTLY.false (c.rule_for-rule.ensures ∙ e) in
     let not_at_least : rule_number rule ≡ 2 → ⊥ =
-        λ e. c.if-rule-eq-AT_LEAST.false (c.rule_for-rule.ensures ∙ e) in
+    λ e. c.if-rule-eq-AT_LEAST.false (c.rule_for-rule.ensures ∙ e) in
     rw c.rule_for-rule.ensures
     (empty_breaks _ rule _ not_exactly not_at_least c.if-value-eq0.true ∙ length_by _ _ _ rule refl)
 
 pub nonzero_rem-result : goal.nonzero_rem-result
 nonzero_rem-result c =
     let rule : Rule =
-        let a = c.args in rule_for (mode_of a.strict) a.kind in
+    let a = c.args in rule_for (mode_of a.strict) a.kind in
     let not_exactly : rule_number rule ≡ 1 → ⊥ =
-        λ e. c.if-rule-eq-EXACTLY.false (c.rule_for-rule.ensures ∙ e) in
+    λ e. c.if-rule-eq-EXACTLY.false (c.rule_for-rule.ensures ∙ e) in
     let not_at_least : rule_number rule ≡ 2 → ⊥ =
-        λ e. c.if-rule-eq-AT_LEAST.false (c.rule_for-rule.ensures ∙ e) in
+    λ e. c.if-rule-eq-AT_LEAST.false (c.rule_for-rule.ensures ∙ e) in
     let some = some_size (mode_of c.args.strict) c.args.kind c.requires (λ e. not_exactly (ap rule_number e)) (λ e. not_at_least (ap rule_number e)) in
     omega (arith, some, c.element_size-size.ensures)
 
 pub returns : goal.returns
 returns c =
     let rule : Rule =
-        let a = c.args in rule_for (mode_of a.strict) a.kind in
+    let a = c.args in rule_for (mode_of a.strict) a.kind in
     let not_exactly : rule_number rule ≡ 1 → ⊥ =
-        λ e. c.if-rule-eq-EXACTLY.false (c.rule_for-rule.ensures ∙ e) in
+    λ e. c.if-rule-eq-EXACTLY.false (c.rule_for-rule.ensures ∙ e) in
     let not_at_least : rule_number rule ≡ 2 → ⊥ =
-        λ e. c.if-rule-eq-AT_LEAST.false (c.rule_for-rule.ensures ∙ e) in
+    λ e. c.if-rule-eq-AT_LEAST.false (c.rule_for-rule.ensures ∙ e) in
     rw c.element_size-size.ensures
     (some_breaks _ rule _ not_exactly not_at_least c.if-value-eq0.false ∙ length_by _ _ _ rule refl)
