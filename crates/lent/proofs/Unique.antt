@@ -2,13 +2,13 @@
 -- Assumes nothing.
 use mathlib.Core.Path.{◌≡◌, sym, ◌∙◌}
 use Prim.Native.Nat.{ℕ}
-use mathlib.Core.List.{List, ◌∷◌}
-use Rattle.facts.proofs.Unique.{UniqueLeft}
+use mathlib.Core.List.{List}
+use Rattle.facts.proofs.Unique.{UniqueLeft, UniqueByHand, together}
 use Rattle.borrowed.specs.declared.answer.Step.{Step}
 use Rattle.borrowed.proofs.Unique.{walked_one}
 use Rattle.lent.specs.Moved.{Moved}
-use Rattle.lent.proofs.next.Kinds as next-kinds
-use Rattle.lent.proofs.next.Reads as next
+use Rattle.lent.specs.declared.Walk.{Walk}
+use Rattle.lent.specs.contracts.next as next
 use Rattle.lent.proofs.next_from.Kinds as next-from-kinds
 use Rattle.lent.proofs.next_from.Reads as next-from
 
@@ -18,9 +18,9 @@ moved_one m n =
     let w = walked_one m.stepped n.stepped in
     (w.0, w.1, m.moved ∙ sym n.moved)
 
--- all that is left of a walk is its place: it stands before the bytes of the join buffer
-next_unique : UniqueLeft 3 next-kinds.ps next-kinds.r next.Post (λ κs s. s.0.now.place ∷ s.1.1.0.now)
-next_unique κs a x y s t p q = let o = moved_one p q in (o.0, λ i. o.2 i ∷ o.1 i)
+next_unique : UniqueByHand next.ended (λ M 𝓤 𝓛. next.clauses 𝓛) (List ℕ × Walk) (λ κs s. (s.1.1.0.now, s.0.now))
+next_unique M 𝓤 𝓛 mem run κs a g x y s t =
+    together 𝓤 (λ m n. let o = moved_one m n in (o.0, λ i. (o.1 i, record { place = o.2 i })))
 
 next_from_unique : UniqueLeft 2 next-from-kinds.ps next-from-kinds.r next-from.Post (λ κs s. s.1.1.0.now)
 next_from_unique κs a x y s t p q = walked_one p q

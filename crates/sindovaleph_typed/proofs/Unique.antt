@@ -1,6 +1,8 @@
 -- Any two answers that the contract of an exported function allows are equal, and so is what they leave in lent memory.
 -- Assumes nothing.
-use Rattle.facts.proofs.Unique.{UniqueLeft}
+use mathlib.Core.List.{List}
+use Prim.Native.Nat.{ℕ}
+use Rattle.facts.proofs.Unique.{UniqueLeft, UniqueByHand, together}
 use Rattle.crossing.proofs.Carries.{wrote_one}
 use Rattle.sindovaleph_typed.proofs.writing.sindovaleph_write_address.Kinds as write-address-kinds
 use Rattle.sindovaleph_typed.proofs.writing.sindovaleph_write_address.Reads as write-address
@@ -32,8 +34,7 @@ use Rattle.sindovaleph_typed.proofs.writing.sindovaleph_write_u16s.Kinds as writ
 use Rattle.sindovaleph_typed.proofs.writing.sindovaleph_write_u16s.Reads as write-u16s
 use Rattle.sindovaleph_typed.proofs.writing.sindovaleph_write_codes.Kinds as write-codes-kinds
 use Rattle.sindovaleph_typed.proofs.writing.sindovaleph_write_codes.Reads as write-codes
-use Rattle.sindovaleph_typed.proofs.writing.sindovaleph_write_routes.Kinds as write-routes-kinds
-use Rattle.sindovaleph_typed.proofs.writing.sindovaleph_write_routes.Reads as write-routes
+use Rattle.sindovaleph_typed.specs.contracts.writing.sindovaleph_write_routes as write-routes
 
 write_address_unique : UniqueLeft 1 write-address-kinds.ps write-address-kinds.r write-address.Post (λ κs s. s.0.now)
 write_address_unique κs a x y s t p q = wrote_one p q
@@ -80,5 +81,5 @@ write_u16s_unique κs a x y s t p q = wrote_one p q
 write_codes_unique : UniqueLeft 2 write-codes-kinds.ps write-codes-kinds.r write-codes.Post (λ κs s. s.0.now)
 write_codes_unique κs a x y s t p q = wrote_one p q
 
-write_routes_unique : UniqueLeft 2 write-routes-kinds.ps write-routes-kinds.r write-routes.Post (λ κs s. s.0.now)
-write_routes_unique κs a x y s t p q = wrote_one p q
+write_routes_unique : UniqueByHand write-routes.ended (λ M 𝓤 𝓛. write-routes.clauses 𝓛) (List ℕ) (λ κs s. s.0.now)
+write_routes_unique M 𝓤 𝓛 mem run κs a g x y s t = together 𝓤 (λ p q. wrote_one p q)

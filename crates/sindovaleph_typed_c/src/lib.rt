@@ -1,5 +1,6 @@
 // What programs in Rust and in C call of `sindovaleph_typed`: each function of it, with its clauses, by its name and C's convention.
 #![tactic(auto)]
+
 ghost use Rattle.std.specs.Prelude.{◌∷◌};
 ghost use Rattle.rfc.specs.Values.{raw, natural, integer, truth, numbers, nothing};
 ghost use Rattle.rfc.specs.Routes.{write_routes};
@@ -138,7 +139,9 @@ pub extern "C" fn sindovaleph_write_three_bytes(
 ) -> Written
     ensures { WroteValue 14 (raw (first ∷ second ∷ third ∷ [])) code room.old room.new place result }
 {
-    sindovaleph_typed::writing::sindovaleph_write_three_bytes(room, place, code, first, second, third)
+    sindovaleph_typed::writing::sindovaleph_write_three_bytes(
+        room, place, code, first, second, third,
+    )
 }
 
 // A flag, which has no value.
