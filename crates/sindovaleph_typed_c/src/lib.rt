@@ -1,7 +1,7 @@
 // What programs in Rust and in C call of `sindovaleph_typed`: each function of it, with its clauses, by its name and C's convention.
 #![tactic(auto)]
 
-ghost use Rattle.std.specs.Prelude.{◌∷◌};
+ghost use Rattle.std.specs.Prelude.{[], ◌∷◌};
 ghost use Rattle.rfc.specs.Values.{raw, natural, integer, truth, numbers, nothing};
 ghost use Rattle.rfc.specs.Routes.{write_routes};
 ghost use Rattle.routes.specs.Rows.{rows_of};
