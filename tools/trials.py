@@ -119,7 +119,7 @@ class Copy:
             verdict, line = self.judged_crate(crate, change)
             if verdict != verdicts.SURVIVED:
                 return verdict, line
-        shutil.rmtree(self.folder / "target" / "inc" / change.crate)
+        shutil.rmtree(self.folder / "crates" / change.crate / MADE)
         return self.judged_crate(change.crate, change)
 
     def judged_crate(self, crate, change):

@@ -35,8 +35,8 @@ module _ (n : ℕ) (ps : List (ParamKind n)) (r : ResultKind n) (Post : Out n ps
       (κs : Lfts n) (a : Dens κs ps) (x y : (res_t r κs).Denot) (s t : AtExit (ended_of n ps r) κs)
       → Post κs a x s → Post κs a y t → shown κs x ≡ shown κs y
 
--- the same of a function that is proved by hand: the checker reads no `Post` of it, and the contract is its clauses, which are statements
--- of the logic. Where these allow one answer and what it leaves, and allow another, the two are equal
+-- the same on the contract's clauses as they are written, which are statements of the logic, and not on the `Post` that the checker reads
+-- of them. Where these allow one answer and what it leaves, and allow another, the two are equal
 module _ (T : Ended) (clauses : (M : Type 1) (𝓤 : Ura M) (𝓛 : Logic 𝓤) → (Memory → SProp 𝓤) → (Routine → Fun 𝓤) → Clauses 𝓤 T)
     (X : Type 0) (left : (κs : Lfts T.signature.lifetimes) → AtExit T κs → X) where
   abbrev pub UniqueByHand : Type 2
