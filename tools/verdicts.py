@@ -57,6 +57,9 @@ FACTS = (
     # An answer to a need, or the made proof of a function without a proof file.
     re.compile(r"`search`: no proof of"),
     re.compile(r"`search` does not close"),
+    # A goal that has no answer, and that the check does not prove.
+    re.compile(r"`search` did not prove `"),
+    re.compile(r"note: \S+: it is not proved that"),
     # Arithmetic that does not follow, mostly with the numbers at which it fails.
     re.compile(r"`omega`: "),
 )
