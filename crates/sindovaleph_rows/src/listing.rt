@@ -165,6 +165,7 @@ fn put_four(rows: &mut [usize], k: usize, a: usize, b: usize, c: usize, d: usize
 }
 
 // What the option that ends at `place` reads as, where nothing can be joined.
+#[tactic(auto, using(crate::proofs::Rows::before_needs))]
 fn read_unjoined(
     area: &[u8],
     code: u8,

@@ -8,14 +8,10 @@ use Rattle.crossing.proofs.Carries.{reading_crosses}
 use Rattle.sindovaleph_rows.proofs.Rows.{before_needs, before_reads}
 use borrow.Author.Rules.{rules}
 use Rattle.sindovaleph_rows.proofs.listing.read_unjoined.Goals as goal
-use Rattle.sindovaleph_rows.proofs.listing.read_unjoined.Goals.{then-parts-gt1+else-len-gt0, else-parts-gt1}
-
-pub returns-then-len-gt0 : goal.returns-then-len-gt0
-returns-then-len-gt0 c = search (rules, before_needs)
 
 pub returns : goal.returns
 returns c =
     let short : 1 < c.args.parts → c.args.len ≤ 0 =
-    λ h. elim c.if-parts-gt1.branch [ then-parts-gt1+else-len-gt0 w ↦ omega arith | else-parts-gt1 w ↦ omega arith ] in
+    λ h. grind arith in
     c.value_of.ensures ∙ reading_crosses _ _ c.read.result c.read.ensures
     ∙ sym (ap value_of (before_reads c.requires _ _ _ short))
