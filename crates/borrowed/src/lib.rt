@@ -99,6 +99,7 @@ pub fn first(area: &[u8], place: usize) -> First
 }
 
 // How a call at `place` begins: two checks, then what stands behind the Pads.
+#[tactic(auto, using(rfc::proofs::Walk::look_2, rfc::proofs::Walk::look_4))]
 fn begin(area: &[u8], place: usize) -> Begun
     ensures { Begins result area.now (rfc.look area.now place) }
 {

@@ -2,16 +2,9 @@
 -- Assumes nothing.
 use mathlib.Core.Path.{sym, ap, ◌∙◌}
 use native.Mathlib.Omega.{arith}
-use borrow.Author.Rules.{rules}
 use Rattle.rfc.specs.Numbers.{given}
-use Rattle.rfc.proofs.Walk.{look_2, look_4, look_walks}
+use Rattle.rfc.proofs.Walk.{look_walks}
 use Rattle.borrowed.proofs.begin.Goals as goal
-
-pub returns-then-area-gt-MOST_BYTES : goal.returns-then-area-gt-MOST_BYTES
-returns-then-area-gt-MOST_BYTES c = search (rules, look_2)
-
-pub returns-then-place-area : goal.returns-then-place-area
-returns-then-place-area c = search (rules, look_4)
 
 pub returns : goal.returns
 returns c =

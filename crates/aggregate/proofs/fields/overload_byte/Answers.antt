@@ -71,4 +71,4 @@ returns c =
     let one : let a = c.args in OneByte a.message.now (overloads (fields_of a.message.now)) a.told.place =
     let t = told in
     said_once _ _ _ (overloads_in_place c.args.message.now) (omega arith) (omega arith) t.place in
-    byte_is _ (byte_said one c.if-named-eq0.false c.if-named-gt3.false)
+    byte_is _ (byte_said one (λ e. omega arith) (omega arith))
