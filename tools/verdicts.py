@@ -17,7 +17,11 @@ FOLLOWS = (
     # A declaration cites one that was refused.
     re.compile(r"was not admitted \(it has holes or undetermined implicits, or was rejected\)"),
     # A function without a proof file calls one that was refused, or several.
-    re.compile(r": no proof: .*; it calls `[^`]*`(?: and `[^`]*`)*, which (?:is|are) not proved"),
+    re.compile(r": no proof: (?:.*; )?it calls `[^`]*`(?: and `[^`]*`)*, which (?:is|are) not proved"),
+    # The same of declarations of a proof, told together.
+    re.compile(r"declarations? that depends? on `[^`]*`"),
+    # A callee without a proof leaves nothing to be proved here.
+    re.compile(r": no proof: the borrow checker's part in its proof is not made yet: a call of `"),
 )
 
 # The proof speaks of something that the changed code does not have, or leaves out something that it has.
@@ -57,14 +61,26 @@ FACTS = (
     # An answer to a need, or the made proof of a function without a proof file.
     re.compile(r"`search`: no proof of"),
     re.compile(r"`search` does not close"),
-    # A goal that has no answer, and that the check does not prove.
-    re.compile(r"`search` did not prove `"),
-    re.compile(r"note: \S+: it is not proved that"),
+    re.compile(r"`grind` found no proof"),
     # Arithmetic that does not follow, mostly with the numbers at which it fails.
     re.compile(r"`omega`: "),
 )
 
-ERROR = re.compile(r"^(?P<file>[^\s:]+\.antt):\d+:\d+: error: |^fn \S+: no proof: ", re.MULTILINE)
+# A goal that has no answer is not proved by the check itself.
+UNANSWERED = (
+    re.compile(r"`search` did not prove `"),
+    re.compile(r"it is not proved that "),
+)
+
+# Values were found at which it is false.
+FALSE = re.compile(r"allow values at which this goal is false")
+
+# A goal has another name than its answer, as its condition names another number: that nothing proves it says nothing then.
+RENAMED = re.compile(r"^help: `Goals` has no `", re.MULTILINE)
+
+ERROR = re.compile(
+    r"^(?P<file>[^\s:]+\.antt):\d+:\d+: error: |^fn \S+: no proof: |^note: \S+\.rt:\d+:\d+: it is not proved that ", re.MULTILINE
+)
 BLOCK_END = re.compile(r"^(?:\S+\.(?:antt|rt):\d+:\d+: |fn |note: |help: |library |crate |logic)", re.MULTILINE)
 LOGIC = re.compile(r"^logic=(\S+)", re.MULTILINE)
 SOURCE_ERROR = re.compile(r"^\S+\.rt:\d+:\d+: error\[.*$", re.MULTILINE)
@@ -82,8 +98,8 @@ def fits(patterns, words):
     return any(pattern.search(words) for pattern in patterns)
 
 
-def kind_of(file, words, is_walk):
-    """What one error says: a fact, a misfit, nothing of its own, or words that are unknown."""
+def kind_of(file, words, is_walk, renamed):
+    """What one error says: a fact, a misfit, nothing of its own, or words that are unknown. `renamed` tells whether a goal lost its answer."""
     if fits(FOLLOWS, words):
         return None
     # A function that is walked by hand: its proof names every step of the code, so any change is refused, whatever it means.
@@ -91,6 +107,8 @@ def kind_of(file, words, is_walk):
         return NO_LONGER_FITS
     if fits(MISFITS, words):
         return NO_LONGER_FITS
+    if fits(UNANSWERED, words):
+        return NO_LONGER_FITS if renamed and not FALSE.search(words) else AT_A_FACT
     return AT_A_FACT if fits(FACTS, words) else UNKNOWN
 
 
@@ -105,7 +123,8 @@ def judge(status, said, is_walk):
         return NO_PROGRAM, SOURCE_ERROR.search(said).group()
     if status == 3:
         return COULD_NOT_TELL, last_line(said)
-    found = [(kind_of(file, words, is_walk), words.splitlines()[0]) for file, words in errors(said)]
+    renamed = RENAMED.search(said) is not None
+    found = [(kind_of(file, words, is_walk, renamed), words.splitlines()[0]) for file, words in errors(said)]
     own = [(kind, line) for kind, line in found if kind is not None]
     if status != 1 or not logic or not own:
         return UNKNOWN, last_line(said)
