@@ -51,6 +51,8 @@ FACTS = (
     re.compile(r"error: `[^`]*`: expected type `(?!tie\.)"),
     # The same, of a number that a constructor fixes.
     re.compile(r"the two indices (?:are `|first differ|differ)|this `[^`]*` lands at index `"),
+    # The same at an end of an equation that is given as a function.
+    re.compile(r"but the extension \(path\) type requires "),
     # An equation is known where its denial is needed.
     re.compile(r"a dimension \(`0`, `1` or an interval variable\) is expected here"),
     # What is known does not make the two sides equal.
