@@ -1,0 +1,55 @@
+-- What a refusal is in the definitions, and what an answer of the code tells.
+-- Assumes nothing.
+use Rattle.std.specs.Prelude.{ℕ, Result, Ok, Err}
+use Rattle.rfc.specs.Numbers.{Answer, given, refused, needs}
+use Rattle.refusal.specs.declared.Refusal.{Refusal}
+use Rattle.refusal.specs.declared.Refusal.TheVariants.{MessageTooShort, TooLong, ChaddrPastEnd, PastEnd, JoinTooShort, NoSuchCode, ValueTooLong, NoRoom, OtherKind, WrongLength, NotUtf8, WidthAbove32, OddPairs, UnclearYesNo, FieldCut, UnclearOverload, SizeAboveBuffer, DestinationBarred, NoOldForm}
+
+-- document 01's number of each
+abbrev pub number_of : Refusal → ℕ
+number_of MessageTooShort = 1
+number_of TooLong = 2
+number_of ChaddrPastEnd = 3
+number_of PastEnd = 4
+number_of (JoinTooShort len) = 5
+number_of NoSuchCode = 6
+number_of ValueTooLong = 7
+number_of NoRoom = 8
+number_of OtherKind = 9
+number_of WrongLength = 10
+number_of NotUtf8 = 11
+number_of WidthAbove32 = 12
+number_of OddPairs = 13
+number_of UnclearYesNo = 14
+number_of FieldCut = 15
+number_of UnclearOverload = 16
+number_of SizeAboveBuffer = 17
+number_of DestinationBarred = 18
+number_of NoOldForm = 19
+
+-- what each says: its number, and with 5 the length that is needed
+abbrev pub says : {A : Type 0} → Refusal → Answer A
+says MessageTooShort = refused 1
+says TooLong = refused 2
+says ChaddrPastEnd = refused 3
+says PastEnd = refused 4
+says (JoinTooShort len) = needs len
+says NoSuchCode = refused 6
+says ValueTooLong = refused 7
+says NoRoom = refused 8
+says OtherKind = refused 9
+says WrongLength = refused 10
+says NotUtf8 = refused 11
+says WidthAbove32 = refused 12
+says OddPairs = refused 13
+says UnclearYesNo = refused 14
+says FieldCut = refused 15
+says UnclearOverload = refused 16
+says SizeAboveBuffer = refused 17
+says DestinationBarred = refused 18
+says NoOldForm = refused 19
+
+-- what an answer of the code tells: what was given, or what its refusal says
+abbrev pub told : {A : Type 0} → Result A Refusal → Answer A
+told (Ok x) = given x
+told (Err e) = says e
