@@ -66,25 +66,26 @@ module _ {A : Type 0} where
   pub told_one : (r q : Result A Refusal) → told r ≡ told q → r ≡ q
   told_one r q e = sym (back_told r) ∙ ap back e ∙ back_told q
 
-  -- what holds of every number, and of 5 with every length, holds of what a refusal says, its number and the length that it needs
-  pub says_as : (P : Answer A → ℕ → ℕ → Type 0) → ((k : ℕ) → P (refused k) k 0) → ((len : ℕ) → P (needs len) 5 len)
-      → (e : Refusal) → P (says e) (number_of e) (needed_of e)
-  says_as P numbered needing MessageTooShort = numbered 1
-  says_as P numbered needing TooLong = numbered 2
-  says_as P numbered needing ChaddrPastEnd = numbered 3
-  says_as P numbered needing PastEnd = numbered 4
-  says_as P numbered needing (JoinTooShort len) = needing len
-  says_as P numbered needing NoSuchCode = numbered 6
-  says_as P numbered needing ValueTooLong = numbered 7
-  says_as P numbered needing NoRoom = numbered 8
-  says_as P numbered needing OtherKind = numbered 9
-  says_as P numbered needing WrongLength = numbered 10
-  says_as P numbered needing NotUtf8 = numbered 11
-  says_as P numbered needing WidthAbove32 = numbered 12
-  says_as P numbered needing OddPairs = numbered 13
-  says_as P numbered needing UnclearYesNo = numbered 14
-  says_as P numbered needing FieldCut = numbered 15
-  says_as P numbered needing UnclearOverload = numbered 16
-  says_as P numbered needing SizeAboveBuffer = numbered 17
-  says_as P numbered needing DestinationBarred = numbered 18
-  says_as P numbered needing NoOldForm = numbered 19
+-- what holds of every number, and of 5 with every length, holds of what a refusal says in answer to either of two questions, of its number
+-- and of the length that it needs
+pub says_as : {A B : Type 0} (P : Answer A → Answer B → ℕ → ℕ → Type 0) → ((k : ℕ) → P (refused k) (refused k) k 0)
+    → ((len : ℕ) → P (needs len) (needs len) 5 len) → (e : Refusal) → P (says e) (says e) (number_of e) (needed_of e)
+says_as P numbered needing MessageTooShort = numbered 1
+says_as P numbered needing TooLong = numbered 2
+says_as P numbered needing ChaddrPastEnd = numbered 3
+says_as P numbered needing PastEnd = numbered 4
+says_as P numbered needing (JoinTooShort len) = needing len
+says_as P numbered needing NoSuchCode = numbered 6
+says_as P numbered needing ValueTooLong = numbered 7
+says_as P numbered needing NoRoom = numbered 8
+says_as P numbered needing OtherKind = numbered 9
+says_as P numbered needing WrongLength = numbered 10
+says_as P numbered needing NotUtf8 = numbered 11
+says_as P numbered needing WidthAbove32 = numbered 12
+says_as P numbered needing OddPairs = numbered 13
+says_as P numbered needing UnclearYesNo = numbered 14
+says_as P numbered needing FieldCut = numbered 15
+says_as P numbered needing UnclearOverload = numbered 16
+says_as P numbered needing SizeAboveBuffer = numbered 17
+says_as P numbered needing DestinationBarred = numbered 18
+says_as P numbered needing NoOldForm = numbered 19
