@@ -1,4 +1,4 @@
--- What a refusal says, whatever was asked for.
+-- What a refusal says of the walk: it stands, and leaves the join buffer and the place.
 -- Assumes nothing.
 use mathlib.Core.Path.{◌≡◌, refl, ap, ◌∙◌}
 use Prim.Native.Nat.{ℕ}
@@ -11,39 +11,34 @@ use Rattle.rfc.proofs.Walk.{refused_keeps, needs_keeps, refused_stays, needs_sta
 use Rattle.refusal.specs.Told.{says}
 use Rattle.refusal.specs.declared.Refusal.{Refusal}
 use Rattle.refusal.proofs.Told.{says_as}
+use Rattle.refusal.proofs.Told.{says_as}
 use Rattle.borrowed.specs.Walked.{sizes}
 use Rattle.borrowed.specs.declared.answer.Step.{Step}
-
--- what holds of each number, and of 5 with each length, holds of what each refusal says, of answers to two questions
-pub says_both : {A B : Type 0} (P : Answer A → Answer B → Type 0)
-    → ((k : ℕ) → P (refused k) (refused k)) → ((n : ℕ) → P (needs n) (needs n)) → (e : Refusal) → P (says e) (says e)
-says_both P r n = says_as (λ x y k len. P x y) r n
 
 -- a refusal stands, whatever would be made of what was given
 pub says_then : {A B : Type 0} (f : A → Answer B) (e : Refusal) → and_then (says e) f ≡ says e
 unfolding and_then
-says_then {A} {B} f = says_both (λ (a : Answer A) (b : Answer B). and_then a f ≡ b) (λ k. refl) (λ n. refl)
+says_then {A} {B} f = says_as (λ (a : Answer A) (b : Answer B) k n. and_then a f ≡ b) (λ k. refl) (λ n. refl)
 
 -- nothing is given
 pub says_given : {A : Type 0} (x : A) (e : Refusal) → says e ≡ given x → ⊥
-says_given {A} x =
-    says_both (λ (a b : Answer A). a ≡ given x → ⊥) (λ k e. cc) (λ n e. cc)
+says_given {A} x = says_as (λ (a b : Answer A) k n. a ≡ given x → ⊥) (λ k e. cc) (λ n e. cc)
 
 -- by its numbers it is the same
 pub says_sized : (e : Refusal) → sizes (says e) ≡ says e
-says_sized = says_both (λ (a : Answer rfc.Found) (b : Answer Step). sizes a ≡ b) (λ k. refl) (λ n. refl)
+says_sized = says_as (λ (a : Answer rfc.Found) (b : Answer Step) k n. sizes a ≡ b) (λ k. refl) (λ n. refl)
 
 pub says_is : (e : Refusal) (a : Answer rfc.Found) → says e ≡ sizes a → a ≡ says e
 says_is e (given f) = λ h. absurd (says_given _ e h)
 says_is e (refused k) =
-    says_both (λ (b : Answer Step) (a : Answer rfc.Found). b ≡ refused k → refused k ≡ a) (λ j h. cc) (λ n h. cc) e
+    says_as (λ (b : Answer Step) (a : Answer rfc.Found) j n. b ≡ refused k → refused k ≡ a) (λ j h. cc) (λ n h. cc) e
 says_is e (needs n) =
-    says_both (λ (b : Answer Step) (a : Answer rfc.Found). b ≡ needs n → needs n ≡ a) (λ j h. cc) (λ m h. cc) e
+    says_as (λ (b : Answer Step) (a : Answer rfc.Found) j m. b ≡ needs n → needs n ≡ a) (λ j h. cc) (λ m h. cc) e
 
 -- it leaves the join buffer and the place
 pub says_keeps : (join : List ℕ) (e : Refusal) → join_after (says e) join ≡ join
-says_keeps join = says_both (λ (a b : Answer rfc.Found). join_after a join ≡ join) (refused_keeps join) (needs_keeps join)
+says_keeps join = says_as (λ (a b : Answer rfc.Found) k n. join_after a join ≡ join) (refused_keeps join) (needs_keeps join)
 
 pub says_stays : (place : ℕ) (e : Refusal) → place_after (says e) place ≡ place
 says_stays place =
-    says_both (λ (a b : Answer rfc.Found). place_after a place ≡ place) (λ k. refused_stays k place) (λ n. needs_stays n place)
+    says_as (λ (a b : Answer rfc.Found) k n. place_after a place ≡ place) (λ k. refused_stays k place) (λ n. needs_stays n place)

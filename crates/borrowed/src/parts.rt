@@ -83,7 +83,7 @@ fn scan(area: &[u8], at: usize, code: u8) -> Option<Run>
 }
 
 // Joins the values of the parts that stand from `at` to `end` in the front of `join`. Empty parts are passed as in `scan`, and a value is
-// written into just its part of `join`: then nothing is left to be tested.
+// written into just its part of `join`: then nothing is left to be tested, and nothing is refused.
 fn join_parts(area: &[u8], at: usize, end: usize, join: &mut [u8])
     requires { PartsTo area.now at end (length join.old) }
     ensures { join.new ≡ over join.old 0 (values_at area.now at) }
@@ -94,7 +94,7 @@ fn join_parts(area: &[u8], at: usize, end: usize, join: &mut [u8])
         let n = area[i + 1] as usize;
         i += 2;
         if n != 0 {
-            encoder::write_slice(&mut join[to..to + n], 0, &area[i..i + n]);
+            let _ = encoder::write_slice(&mut join[to..to + n], 0, &area[i..i + n]);
             i += n;
             to += n;
         }

@@ -42,7 +42,7 @@ pub returns : goal.returns
 returns c =
     let s = starts_at c.args.area.now c.args.place (omega arith) (omega arith) c.if-code-eq0.false c.if-code.false in
     elim c.else-to-size.branch [
-      else-to-size-via-then-to-size+else-area-to w ↦
-          first_told _ _ (omega arith) s.other (starts_alone s (further_other_at _ _ _ w.if-to-size.true w.if-area-to.false)) |
-      else-to-size-via-else-to-size w ↦ first_told _ _ (omega arith) s.other (starts_alone s (further_none_at _ _ _ w.if-to-size.false))
+      | else-to-size-via-then-to-size+else-area-to w ↦
+          first_told _ _ (omega arith) s.other (starts_alone s (further_other_at _ _ _ w.if-to-size.true w.if-area-to.false))
+      | else-to-size-via-else-to-size w ↦ first_told _ _ (omega arith) s.other (starts_alone s (further_none_at _ _ _ w.if-to-size.false))
     ]

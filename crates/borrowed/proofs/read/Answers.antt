@@ -27,7 +27,7 @@ returns-then-len-area c =
     let inside = c.if-at-area.false in
     let ready = c.requires in (
       looked _ _ ready.small ready.within
-      (cut_value_at _ _ inside (ready.other inside) c.if-code.false (omega arith) c.if-len-area.true),
+          (cut_value_at _ _ inside (ready.other inside) c.if-code.false (omega arith) c.if-len-area.true),
       tt,
     )
 
@@ -35,7 +35,7 @@ pub returns : goal.returns
 returns c =
     let starts = starts_at _ _ c.requires.small (omega arith) (c.requires.other c.if-at-area.false) c.if-code.false in
     elim c.else-next-area.branch [
-      else-next-area-via-then-next-area+else-area-next w ↦
-          (starts_alone starts (further_other_at _ _ _ w.if-next-area.true w.if-area-next.false), refl) |
-      else-next-area-via-else-next-area w ↦ (starts_alone starts (further_none_at _ _ _ w.if-next-area.false), refl)
+      | else-next-area-via-then-next-area+else-area-next w ↦
+          (starts_alone starts (further_other_at _ _ _ w.if-next-area.true w.if-area-next.false), refl)
+      | else-next-area-via-else-next-area w ↦ (starts_alone starts (further_none_at _ _ _ w.if-next-area.false), refl)
     ]
