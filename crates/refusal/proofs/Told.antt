@@ -90,15 +90,11 @@ says_as P numbered needing SizeAboveBuffer = numbered 17
 says_as P numbered needing DestinationBarred = numbered 18
 says_as P numbered needing NoOldForm = numbered 19
 
-pub says_both : {A B : Type 0} (P : Answer A → Answer B → Type 0) → ((k : ℕ) → P (refused k) (refused k))
-    → ((len : ℕ) → P (needs len) (needs len)) → (e : Refusal) → P (says e) (says e)
-says_both P numbered needing = says_as (λ x y k len. P x y) numbered needing
-
 -- a refusal stands, whatever would be made of what was given
 pub says_then : {A B : Type 0} (f : A → Answer B) (e : Refusal) → and_then (says e) f ≡ says e
 unfolding and_then
-says_then {A} {B} f = says_both (λ (a : Answer A) (b : Answer B). and_then a f ≡ b) (λ k. refl) (λ n. refl)
+says_then {A} {B} f = says_as (λ (a : Answer A) (b : Answer B) k len. and_then a f ≡ b) (λ k. refl) (λ n. refl)
 
 -- nothing is given
 pub says_given : {A : Type 0} (x : A) (e : Refusal) → says e ≡ given x → ⊥
-says_given {A} x = says_both (λ (a b : Answer A). a ≡ given x → ⊥) (λ k e. cc) (λ n e. cc)
+says_given {A} x = says_as (λ (a b : Answer A) k len. a ≡ given x → ⊥) (λ k e. cc) (λ n e. cc)
