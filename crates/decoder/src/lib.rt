@@ -44,5 +44,8 @@ pub fn u32_at(bytes: &[u8], at: usize) -> u32
 fn bytes_at<const N: usize>(bytes: &[u8], at: usize) -> Option<&[u8; N]>
     ensures { MatchOption result (number_at N bytes.now at ≡ 0) (λ b. number_at N bytes.now at ≡ number b.now) }
 {
-    bytes.get(at..)?.first_chunk()
+    if bytes.len() < N || at > bytes.len() - N {
+        return None;
+    }
+    bytes[at..at + N].first_chunk()
 }
