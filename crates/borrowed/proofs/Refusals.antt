@@ -1,8 +1,7 @@
 -- What a refusal says of the walk: it stands, and leaves the join buffer and the place.
 -- Assumes nothing.
-use mathlib.Core.Path.{◌≡◌, refl, ap, ◌∙◌}
+use mathlib.Core.Path.{◌≡◌, refl}
 use Prim.Native.Nat.{ℕ}
-use native.Mathlib.Omega.{arith}
 use mathlib.Core.List.{List}
 use Rattle.rfc.specs.Numbers.{Answer, given, refused, needs, and_then}
 use Rattle.rfc.specs.Walk as rfc
