@@ -9,8 +9,9 @@ use lib.ListN.{length, get_or}
 use lib.Dec.{eqb, leb}
 use borrow.Author.Tests.{eqb-true, eq-eqb, ne_eqb, le-leb, lt-leb}
 use Rattle.std.specs.Prelude.{Option, Some, None, Ok}
-use Rattle.rfc.specs.Numbers.{Answer, given, refused, needs, pad_code}
+use Rattle.rfc.specs.Numbers.{Answer, given, refused, needs, pad_code, most_bytes}
 use Rattle.rfc.specs.Walk.{look}
+use Rattle.rfc.proofs.Walk.{look_2}
 use Rattle.borrowed.specs.Walked.{sizes, size_of, Stepped, Continues}
 use Rattle.borrowed.specs.FirstLook.{told_first, first_of}
 use Rattle.borrowed.specs.declared.answer.Stop.TheVariants.{Out, End, CutLength, CutValue, CutContinuation}
@@ -40,13 +41,13 @@ module _ (area : List ℕ) (place : ℕ) where
       go true = rw (eq-eqb (get_or area place 0) pad_code e)
       go false = refl
 
-  pub first_refused : (k : ℕ) → look area place ≡ refused k → Other ≡ first_of area place
+  pub first_long : most_bytes < length area → Other ≡ first_of area place
   unfolding first_of
-  first_refused k e = go (leb (place + 2) (length area)) (eqb (get_or area place 0) pad_code)
+  first_long h = go (leb (place + 2) (length area)) (eqb (get_or area place 0) pad_code)
     where
       go : (t u : Bool) → Other ≡ cond t (cond u Other (told_first (sizes (look area place)))) Other
       go true true = refl
-      go true false = rw e
+      go true false = rw (look_2 area place h)
       go false u = refl
 
   -- else it is told of what is found

@@ -10,7 +10,7 @@ use Rattle.std.specs.Prelude.{Option, Some, None}
 use Rattle.rfc.specs.Walk as rfc
 use Rattle.rfc.specs.Walk.{cut, run, extend, further}
 use Rattle.rfc.proofs.Walk.{extend_cut, extend_run}
-use Rattle.rfc.proofs.Places.{further_more_at, run_within}
+use Rattle.rfc.proofs.Places.{further_none_at, further_other_at, further_no_length_at, further_no_value_at, further_more_at, run_within}
 use Rattle.borrowed.specs.Walked.{size_of, values}
 use Rattle.borrowed.specs.declared.parts.Run.{Run}
 
@@ -79,3 +79,6 @@ scan_empty area i code parts len e z h =
     let a : len + get_or area (i + 1) 0 ≡ len = omega (arith, z) in
     let b : i + 2 + get_or area (i + 1) 0 ≡ i + 2 = omega (arith, z) in
     scan_turn area i code parts len e (omega (arith, z)) ∙ (λ j. grow (parts + 1) (a j) (size_of (further code (drop (b j) area))))
+
+-- the returns and the turns of a scan
+pub ruleset scanning = (further_none_at, further_other_at, further_no_length_at, further_no_value_at, grow_run, grow_cut, scan_turn, scan_empty)

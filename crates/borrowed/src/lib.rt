@@ -45,6 +45,7 @@ pub fn step(area: &[u8], place: usize, join: &mut [u8]) -> Result<Step, Refusal>
 
 // A first look at `place`, for callers that are in a hurry: most options have one part and no Pad before them. One test tells that a code
 // and a length stand there, and one that the value does.
+#[tactic(auto, using(crate::proofs::FirstLook::first_long, crate::proofs::FirstLook::first_short, crate::proofs::FirstLook::first_pad))]
 pub fn first(area: &[u8], place: usize) -> First
     ensures { result ≡ first_of area.now place }
 {

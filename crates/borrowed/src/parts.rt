@@ -53,6 +53,7 @@ pub(crate) fn several(area: &[u8], at: usize, join: &mut [u8]) -> Result<Step, R
 
 // The further parts of `code` from `at` on, or none where one of them is cut. An empty part is passed by a branch of its own: the processor
 // guesses the branch and goes on to the next part, where a sum would wait for the length to be loaded.
+#[tactic(auto, using(crate::proofs::Runs::scanning))]
 fn scan(area: &[u8], at: usize, code: u8) -> Option<Run>
     requires { (length area.now ≤ most_bytes) × (at ≤ length area.now) }
     ensures told { result ≡ size_of (further code (drop at area.now)) }
