@@ -45,7 +45,7 @@ pub fn step_of(call: Result<Call, Refusal>, place: usize) -> Step
             len: 0,
             place: at,
         },
-        Ok(Call::Found(found)) => option_of(found),
+        Ok(Call::Found(found)) => Step::from(found),
         Err(refusal) => Step {
             refused: refusal.number(),
             stop: 0,
@@ -58,16 +58,18 @@ pub fn step_of(call: Result<Call, Refusal>, place: usize) -> Step
 }
 
 // An option.
-pub fn option_of(found: Found) -> Step
-    ensures { result ≡ option_here found }
-{
-    Step {
-        refused: 0,
-        stop: 0,
-        code: found.code,
-        parts: found.parts,
-        len: found.len,
-        place: found.place,
+impl From<Found> for Step {
+    ghost from_gives = { λ found step. step ≡ option_here found };
+
+    fn from(found: Found) -> Step {
+        Step {
+            refused: 0,
+            stop: 0,
+            code: found.code,
+            parts: found.parts,
+            len: found.len,
+            place: found.place,
+        }
     }
 }
 
