@@ -1,4 +1,2 @@
-pub mod RuleNumbers
 pub mod Cases
 pub mod Entries
-pub mod Unique
