@@ -11,7 +11,7 @@ use lib.Seq.{drop-drop}
 use Rattle.facts.specs.BigEndian.{number, number_at}
 use Rattle.facts.proofs.BigEndian.{number_front}
 use Rattle.facts.proofs.Pieces.{piece_lies}
-use Rattle.rfc.specs.Numbers.{given, refused}
+use Rattle.rfc.specs.Numbers.{Answer, given, refused}
 use Rattle.rfc.specs.Kinds.{kind_of, size_of}
 use Rattle.rfc.specs.Values as rfc
 use Rattle.rfc.specs.Values.{plain, wrong_length, value_of, read, elements, element_at, element}
@@ -21,6 +21,8 @@ use Rattle.rfc.proofs.Readings.{read_right}
 use Rattle.values.specs.Reading.{says, count_of, Tells, ReadAs, Entry, entry_at}
 use Rattle.std.specs.Prelude.{Result, Ok}
 use Rattle.refusal.specs.declared.Refusal.{Refusal}
+use Rattle.refusal.specs.Told as refusal
+use Rattle.refusal.proofs.Told.{says_then}
 use Rattle.values.proofs.Cases.{is_value}
 use Rattle.values.specs.declared.answer.Value.{Value}
 use Rattle.values.specs.declared.answer.Value.TheVariants as case
@@ -81,8 +83,6 @@ module _ {kind index size : ℕ} {v : List ℕ} (e : Entry kind v index) (s : si
       let at : index * size ≡ index * 8 = start e is pairs s in
       rw (is, pair_entries v (right e is pairs) index (below e is pairs), f, g, drop-drop 4 (index * size) v, at)
 
-pub ruleset inside = (some, within)
-
 -- what has elements is a list
 entry_of : (r : Value) (v : List ℕ) (index : ℕ) → index < count_of r → wrong_length plain (says r v).kind v ≡ false
     → index < length (elements (value_of (says r v).kind v)) → Entry (says r v).kind v index
@@ -102,6 +102,11 @@ entry_of (case.NodeType node) v index h r b = absurd (omega arith)
 entry_of (case.MessageType n) v index h r b = absurd (omega arith)
 entry_of (case.ThreeBytes x y z) v index h r b = absurd (omega arith)
 entry_of case.Flag v index h r b = absurd (omega arith)
+
+-- a refused reading is the answer of an element too
+pub no_reading : (index : ℕ) (reading : Answer rfc.Value) (e : Refusal) → refusal.says e ≡ reading → refusal.says e ≡ element index reading
+unfolding element
+no_reading index reading e told = sym (says_then (element_at index) e) ∙ ap (element index) told
 
 -- the element of what was read
 module _ (code : ℕ) (v : List ℕ) (index : ℕ) {reading : Result Value Refusal} {held : Value} (e : reading ≡ Ok held)

@@ -102,7 +102,6 @@ pub fn element(code: u8, value: &[u8], index: usize) -> Result<Element, Refusal>
 }
 
 // The element at an index that a list has.
-#[tactic(auto, using(crate::proofs::Entries::inside))]
 fn entry(kind: Kind, value: &[u8], index: usize) -> Element
     requires { Entry (number_of kind) value.now index }
     ensures { entry_says result ≡ entry_at (number_of kind) value.now index }
