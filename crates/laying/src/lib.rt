@@ -132,7 +132,7 @@ impl Pass {
     pub fn put_address(self, room: &mut [u8], address: u32, n: usize) -> Pass
         ensures { (result, room.new) ≡ foldl put (self, room.old) (take n (digits 4 address)) }
     {
-        let bytes = encoder::u32_bytes(address);
+        let bytes = address.to_be_bytes();
         let mut pass = self;
         for byte in &bytes[..parts::next_piece(n, ADDRESS)] {
             pass = pass.put_next(room, *byte);
