@@ -1,14 +1,17 @@
 -- Any two answers that the contract of a function allows are equal, and so are the rooms that a writer leaves.
 -- Assumes nothing.
 use mathlib.Core.Path.{sym, ◌∙◌}
+use denote.RattleType.{RattleType}
+use denote.Param.Laws.{Laws, IsCopy}
+use mir.Syntax.{Dict}
+use Rattle.std.specs.declared.clone.Clone as Clone
+use Rattle.encoder.specs.declared.Number as Number
 use Rattle.facts.proofs.Unique.{Unique, UniqueLeft}
 use Rattle.encoder.proofs.Answers.{wrote_one}
 use Rattle.encoder.proofs.write_slice.Kinds as write-slice-kinds
 use Rattle.encoder.proofs.write_slice.Reads as write-slice
-use Rattle.encoder.proofs.write_u16s.Kinds as write-u16s-kinds
-use Rattle.encoder.proofs.write_u16s.Reads as write-u16s
-use Rattle.encoder.proofs.write_u32s.Kinds as write-u32s-kinds
-use Rattle.encoder.proofs.write_u32s.Reads as write-u32s
+use Rattle.encoder.proofs.write_numbers.Kinds as write-numbers-kinds
+use Rattle.encoder.proofs.write_numbers.Reads as write-numbers
 use Rattle.encoder.proofs.u16_bytes.Kinds as u16-bytes-kinds
 use Rattle.encoder.proofs.u16_bytes.Reads as u16-bytes
 use Rattle.encoder.proofs.u32_bytes.Kinds as u32-bytes-kinds
@@ -21,11 +24,11 @@ use Rattle.encoder.proofs.bits_of.Reads as bits_of
 write_slice_unique : UniqueLeft 2 write-slice-kinds.ps write-slice-kinds.r write-slice.Post (λ κs s. s.0.now)
 write_slice_unique κs a x y s t p q = wrote_one p q
 
-write_u16s_unique : UniqueLeft 2 write-u16s-kinds.ps write-u16s-kinds.r write-u16s.Post (λ κs s. s.0.now)
-write_u16s_unique κs a x y s t p q = wrote_one p q
-
-write_u32s_unique : UniqueLeft 2 write-u32s-kinds.ps write-u32s-kinds.r write-u32s.Post (λ κs s. s.0.now)
-write_u32s_unique κs a x y s t p q = wrote_one p q
+-- of numbers of any type
+module _ (T : RattleType) (laws : Laws T) (copy : IsCopy T) (g : Number.Ghosts T.Denot) (d : Dict) (h : Clone.Ghosts T.Denot) (e : Dict) where
+  write_numbers_unique : UniqueLeft 3 (write-numbers-kinds.ps T laws copy) (write-numbers-kinds.r T laws copy)
+      (write-numbers.Post T laws copy g d h e) (λ κs s. s.0.now)
+  write_numbers_unique κs a x y s t p q = wrote_one p q
 
 u16_bytes_unique : Unique 0 u16-bytes-kinds.ps u16-bytes-kinds.r u16-bytes.Post
 u16_bytes_unique κs a x y s t p q = p ∙ sym q

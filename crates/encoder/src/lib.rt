@@ -2,68 +2,100 @@
 // refused, and a refusal changes nothing.
 #![tactic(auto)]
 
-ghost use Rattle.std.specs.Prelude.{◌≡◌, ◌+◌, ◌*◌, ◌≤◌, length, take, drop};
+ghost use Rattle.std.specs.Prelude.{ℕ, List, ◌≡◌, ◌+◌, ◌*◌, ◌≤◌, length, take, drop};
 ghost use Rattle.facts.specs.Over.{over};
 ghost use Rattle.facts.specs.BigEndian.{digits, unsigned};
 ghost use Rattle.rfc.specs.Writing.{write_slice};
 ghost use Rattle.rfc.specs.Typed.{digits_of};
 ghost use Rattle.encoder.specs.Written.{Wrote};
+ghost use Rattle.encoder.specs.Numbers.{NumberLaws, itself, laws_of};
 
-// What a write answers.
-#[derive(Drop)]
-pub enum Written {
-    // The place behind what was written.
-    To(usize),
-    // A refusal by its number.
-    Refused(u8),
+use refusal::Refusal;
+
+// A number that is written as bytes, the highest first: how many they are, and those of several numbers one behind the other.
+pub trait Number: Copy {
+    ghost WIDTH: { ℕ };
+
+    ghost value: { Self → ℕ };
+
+    ghost bytes: { List Self → List ℕ };
+
+    const WIDTH: usize;
+
+    // Puts the bytes of a number at `at`.
+    fn put(self, room: &mut [u8], at: usize)
+        requires { at + WIDTH ≤ length room.old }
+        ensures { room.new ≡ over room.old at (digits WIDTH (value self)) };
+
+    ghost laws: { NumberLaws WIDTH value bytes };
+}
+
+impl Number for u16 {
+    ghost WIDTH = { 2 };
+
+    ghost value = { itself };
+
+    ghost bytes = { digits_of 2 };
+
+    const WIDTH: usize = 2;
+
+    ghost laws = { laws_of 1 };
+
+    fn put(self, room: &mut [u8], at: usize) {
+        put_bytes(room, at, &u16_bytes(self));
+    }
+}
+
+impl Number for u32 {
+    ghost WIDTH = { 4 };
+
+    ghost value = { itself };
+
+    ghost bytes = { digits_of 4 };
+
+    const WIDTH: usize = 4;
+
+    ghost laws = { laws_of 3 };
+
+    fn put(self, room: &mut [u8], at: usize) {
+        put_bytes(room, at, &u32_bytes(self));
+    }
 }
 
 // Writes `bytes` at `place` as they stand. The room may be any buffer, of any size.
-pub fn write_slice(room: &mut [u8], place: usize, bytes: &[u8]) -> Written
+pub fn write_slice(room: &mut [u8], place: usize, bytes: &[u8]) -> Result<usize, Refusal>
     ensures { Wrote (write_slice bytes.now room.old place)
         room.old room.new place result }
 {
     if place > room.len() {
-        return Written::Refused(4);
+        return Err(Refusal::PastEnd);
     }
     if bytes.len() > room.len() - place {
-        return Written::Refused(8);
+        return Err(Refusal::NoRoom);
     }
     let to = place + bytes.len();
     copy(bytes, room, place);
-    Written::To(to)
+    Ok(to)
 }
 
-// Writes numbers at `place`, two bytes each, the highest first.
-pub fn write_u16s(room: &mut [u8], place: usize, numbers: &[u16]) -> Written
-    ensures { Wrote (write_slice (digits_of 2 numbers.now) room.old place)
+// Writes numbers at `place`, each by its bytes.
+pub fn write_numbers<N: Number>(
+    room: &mut [u8],
+    place: usize,
+    numbers: &[N],
+) -> Result<usize, Refusal>
+    ensures { Wrote (write_slice (N.bytes numbers.now) room.old place)
         room.old room.new place result }
 {
     if place > room.len() {
-        return Written::Refused(4);
+        return Err(Refusal::PastEnd);
     }
-    if numbers.len() > (room.len() - place) / 2 {
-        return Written::Refused(8);
+    if numbers.len() > (room.len() - place) / N::WIDTH {
+        return Err(Refusal::NoRoom);
     }
-    let to = place + 2 * numbers.len();
-    put_u16s(room, place, numbers);
-    Written::To(to)
-}
-
-// Writes numbers at `place`, four bytes each, the highest first.
-pub fn write_u32s(room: &mut [u8], place: usize, numbers: &[u32]) -> Written
-    ensures { Wrote (write_slice (digits_of 4 numbers.now) room.old place)
-        room.old room.new place result }
-{
-    if place > room.len() {
-        return Written::Refused(4);
-    }
-    if numbers.len() > (room.len() - place) / 4 {
-        return Written::Refused(8);
-    }
-    let to = place + 4 * numbers.len();
-    put_u32s(room, place, numbers);
-    Written::To(to)
+    let to = place + N::WIDTH * numbers.len();
+    put_numbers(room, place, numbers);
+    Ok(to)
 }
 
 // The two bytes of a number, the highest first.
@@ -114,13 +146,13 @@ fn copy(from: &[u8], to: &mut [u8], place: usize)
         return;
     }
     if n >= 8 {
-        block_8(from, 0, to, place);
-        block_8(from, n - 8, to, place + (n - 8));
+        block::<8>(from, 0, to, place);
+        block::<8>(from, n - 8, to, place + (n - 8));
         return;
     }
     if n >= 4 {
-        block_4(from, 0, to, place);
-        block_4(from, n - 4, to, place + (n - 4));
+        block::<4>(from, 0, to, place);
+        block::<4>(from, n - 4, to, place + (n - 4));
         return;
     }
     copy_bytes(from, to, place);
@@ -134,10 +166,10 @@ fn copy_blocks(from: &[u8], to: &mut [u8], place: usize)
     let last = from.len() - 16;
     let mut i: usize = 0;
     while i < last {
-        block_16(from, i, to, place + i);
+        block::<16>(from, i, to, place + i);
         i += 16;
     }
-    block_16(from, last, to, place + last);
+    block::<16>(from, last, to, place + last);
 }
 
 // Copies all of `from` into `to` at `place`, byte by byte.
@@ -145,105 +177,35 @@ fn copy_bytes(from: &[u8], to: &mut [u8], place: usize)
     requires { place + length from.now ≤ length to.old }
     ensures { to.new ≡ over to.old place from.now }
 {
-    let mut i: usize = 0;
-    while i < from.len() {
-        to[place + i] = from[i];
-        i += 1;
+    for (i, b) in from.iter().enumerate() {
+        to[place + i] = *b;
     }
 }
 
-// Copies the 16 bytes of `from` at `i` into `to` at `at`. All are read before one is stored, here and in the next two, so that a block is
-// compiled to one load and one store.
-fn block_16(from: &[u8], i: usize, to: &mut [u8], at: usize)
-    requires { (i + 16 ≤ length from.now) × (at + 16 ≤ length to.old) }
-    ensures { to.new ≡ over to.old at (take 16 (drop i from.now)) }
+// Copies the `N` bytes of `from` at `i` into `to` at `at`. The compiler knows how many they are, and makes one load and one store of it.
+fn block<const N: usize>(from: &[u8], i: usize, to: &mut [u8], at: usize)
+    requires { (i + N ≤ length from.now) × (at + N ≤ length to.old) }
+    ensures { to.new ≡ over to.old at (take N (drop i from.now)) }
 {
-    let a = four(from, i);
-    let b = four(from, i + 4);
-    let c = four(from, i + 8);
-    let d = four(from, i + 12);
-    put_four(to, at, a);
-    put_four(to, at + 4, b);
-    put_four(to, at + 8, c);
-    put_four(to, at + 12, d);
+    put_bytes(to, at, &from[i..i + N]);
 }
 
-// Copies the 8 bytes of `from` at `i` into `to` at `at`.
-fn block_8(from: &[u8], i: usize, to: &mut [u8], at: usize)
-    requires { (i + 8 ≤ length from.now) × (at + 8 ≤ length to.old) }
-    ensures { to.new ≡ over to.old at (take 8 (drop i from.now)) }
+// Puts bytes at `at`.
+fn put_bytes(to: &mut [u8], at: usize, bytes: &[u8])
+    requires { at + length bytes.now ≤ length to.old }
+    ensures { to.new ≡ over to.old at bytes.now }
 {
-    let a = four(from, i);
-    let b = four(from, i + 4);
-    put_four(to, at, a);
-    put_four(to, at + 4, b);
+    to[at..at + bytes.len()].copy_from_slice(bytes);
 }
 
-// Copies the 4 bytes of `from` at `i` into `to` at `at`.
-fn block_4(from: &[u8], i: usize, to: &mut [u8], at: usize)
-    requires { (i + 4 ≤ length from.now) × (at + 4 ≤ length to.old) }
-    ensures { to.new ≡ over to.old at (take 4 (drop i from.now)) }
+// Puts numbers at `place`, one behind the other.
+fn put_numbers<N: Number>(room: &mut [u8], place: usize, numbers: &[N])
+    requires { place + N.WIDTH * length numbers.now ≤ length room.old }
+    ensures { room.new ≡ over room.old place (N.bytes numbers.now) }
 {
-    put_four(to, at, four(from, i));
-}
-
-// The four bytes of `from` at `i`.
-fn four(from: &[u8], i: usize) -> [u8; 4]
-    requires { i + 4 ≤ length from.now }
-    ensures { result ≡ take 4 (drop i from.now) }
-{
-    [from[i], from[i + 1], from[i + 2], from[i + 3]]
-}
-
-// Puts four bytes at `at`.
-fn put_four(to: &mut [u8], at: usize, bytes: [u8; 4])
-    requires { at + 4 ≤ length to.old }
-    ensures { to.new ≡ over to.old at bytes }
-{
-    to[at] = bytes[0];
-    to[at + 1] = bytes[1];
-    to[at + 2] = bytes[2];
-    to[at + 3] = bytes[3];
-}
-
-// Puts numbers of two bytes at `place`.
-fn put_u16s(room: &mut [u8], place: usize, numbers: &[u16])
-    requires { place + 2 * length numbers.now ≤ length room.old }
-    ensures { room.new ≡ over room.old place (digits_of 2 numbers.now) }
-{
-    let mut i: usize = 0;
-    while i < numbers.len() {
-        put_u16(room, place + 2 * i, numbers[i]);
-        i += 1;
+    let mut at = place;
+    for number in numbers {
+        number.put(room, at);
+        at += N::WIDTH;
     }
-}
-
-// Puts numbers of four bytes at `place`.
-fn put_u32s(room: &mut [u8], place: usize, numbers: &[u32])
-    requires { place + 4 * length numbers.now ≤ length room.old }
-    ensures { room.new ≡ over room.old place (digits_of 4 numbers.now) }
-{
-    let mut i: usize = 0;
-    while i < numbers.len() {
-        put_u32(room, place + 4 * i, numbers[i]);
-        i += 1;
-    }
-}
-
-// Puts the two bytes of a number at `at`.
-fn put_u16(room: &mut [u8], at: usize, number: u16)
-    requires { at + 2 ≤ length room.old }
-    ensures { room.new ≡ over room.old at (digits 2 number) }
-{
-    let bytes = u16_bytes(number);
-    room[at] = bytes[0];
-    room[at + 1] = bytes[1];
-}
-
-// Puts the four bytes of a number at `at`.
-fn put_u32(room: &mut [u8], at: usize, number: u32)
-    requires { at + 4 ≤ length room.old }
-    ensures { room.new ≡ over room.old at (digits 4 number) }
-{
-    put_four(room, at, u32_bytes(number));
 }

@@ -27,6 +27,28 @@ number_of SizeAboveBuffer = 17
 number_of DestinationBarred = 18
 number_of NoOldForm = 19
 
+-- the length that 5 needs
+abbrev pub needed_of : Refusal → ℕ
+needed_of MessageTooShort = 0
+needed_of TooLong = 0
+needed_of ChaddrPastEnd = 0
+needed_of PastEnd = 0
+needed_of (JoinTooShort len) = len
+needed_of NoSuchCode = 0
+needed_of ValueTooLong = 0
+needed_of NoRoom = 0
+needed_of OtherKind = 0
+needed_of WrongLength = 0
+needed_of NotUtf8 = 0
+needed_of WidthAbove32 = 0
+needed_of OddPairs = 0
+needed_of UnclearYesNo = 0
+needed_of FieldCut = 0
+needed_of UnclearOverload = 0
+needed_of SizeAboveBuffer = 0
+needed_of DestinationBarred = 0
+needed_of NoOldForm = 0
+
 -- what each says: its number, and with 5 the length that is needed
 abbrev pub says : {A : Type 0} → Refusal → Answer A
 says MessageTooShort = refused 1

@@ -9,9 +9,9 @@ loop-i-init c = laid_none _ _ _ (omega arith)
 
 pub loop-i-preserved : goal.loop-i-preserved
 loop-i-preserved c =
-    laid_more c.loop-i.invariant 16 (omega arith) c.block_16.ensures
+    laid_more c.loop-i.invariant 16 (omega arith) c.block.ensures
 
 pub returns : goal.returns
 returns c =
     laid_last c.loop-i.invariant 16 (omega arith) (omega arith)
-    c.block_16-2.ensures
+    c.block-2.ensures

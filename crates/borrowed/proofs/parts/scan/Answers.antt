@@ -6,18 +6,18 @@ use Rattle.rfc.proofs.Places.{further_none_at, further_other_at, further_no_leng
 use Rattle.borrowed.proofs.Runs.{grow_run, grow_cut, scan_turn, scan_empty}
 use Rattle.borrowed.proofs.parts.scan.Goals as goal
 
-pub returns-then-area-i : goal.returns-then-area-i
-returns-then-area-i c =
+pub returns-then-area-i-clause-told : goal.returns-then-area-i-clause-told
+returns-then-area-i-clause-told c =
     let l = c.loop-i in
     grow_run _ _ _ (further_other_at _ l.i _ (omega arith) c.if-area-i.true) ∙ sym l.invariant.2
 
-pub returns-then-i-area : goal.returns-then-i-area
-returns-then-i-area c =
+pub returns-then-i-area-clause-told : goal.returns-then-i-area-clause-told
+returns-then-i-area-clause-told c =
     let l = c.loop-i in
     grow_cut _ _ _ (further_no_length_at _ l.i _ (omega arith) c.if-area-i.false (omega arith)) ∙ sym l.invariant.2
 
-pub returns-then-i-area-2 : goal.returns-then-i-area-2
-returns-then-i-area-2 c =
+pub returns-then-i-area-2-clause-told : goal.returns-then-i-area-2-clause-told
+returns-then-i-area-2-clause-told c =
     let l = c.loop-i in
     grow_cut _ _ _ (further_no_value_at _ l.i _ (omega arith) c.if-area-i.false (omega arith)) ∙ sym l.invariant.2
 
@@ -31,7 +31,7 @@ loop-i-preserved c =
     let l = c.loop-i in
     (omega arith, omega arith, l.invariant.2 ∙ scan_empty _ l.i _ l.parts l.len c.if-area-i.false c.if-n-ne0.false (omega arith))
 
-pub returns : goal.returns
-returns c =
+pub returns-clause-told : goal.returns-clause-told
+returns-clause-told c =
     let l = c.loop-i in
     grow_run _ _ _ (further_none_at _ l.i _ c.loop-i-test.false) ∙ sym l.invariant.2
