@@ -10,23 +10,22 @@ use lib.Dec.{eqb, ltb}
 use lib.ListN.{length, get_or, take}
 use borrow.Author.Tests.{ne_eqb, ltb-false}
 use native.Mathlib.Decide.{dec_le}
-use Rattle.std.specs.Prelude.{Result, Ok, Err, Some, None, unwrap_or, position}
+use Rattle.std.specs.Prelude.{Result, Err, Some, None, unwrap_or, position}
 use Rattle.std.specs.List.{position_or_len}
 use Rattle.std.proofs.lemmas.List.Recursion.{is_position_or_len}
 use Rattle.facts.specs.BigEndian.{number, number_at}
 use Rattle.facts.proofs.BigEndian.{number_front}
 use Rattle.facts.proofs.Cells.{byte_at}
-use Rattle.rfc.specs.Numbers.{Answer, given, refused, least_message, most_bytes}
+use Rattle.rfc.specs.Numbers.{Answer, given, refused, needs, checked, least_message, most_bytes}
 use Rattle.rfc.specs.Header as rfc
 use Rattle.rfc.specs.Header.{Part, part, bytes_of, message_checks, field, until_zero, text_field}
-use Rattle.rfc.proofs.Numbers.{Refuses, refuses, Clear}
+use Rattle.rfc.proofs.Numbers.{Refuses, refuses, refused_by, passes, needs_no, Clear}
 use Rattle.rfc.proofs.Header as laws
 use Rattle.refusal.specs.declared.Refusal.{Refusal}
 use Rattle.refusal.specs.declared.Refusal.TheVariants.{MessageTooShort, TooLong, ChaddrPastEnd}
-use Rattle.refusal.proofs.Told.{told_one}
+use Rattle.refusal.proofs.Told.{told_one, says_as, says_given}
 use Rattle.refusal.specs.Told.{number_of, says}
 use Rattle.header.specs.Header.{cut_in, own_in, spills_in, magic_in, all_of, none_of, Stopped, Inside}
-use Rattle.header.proofs.Refusals.{stopped}
 
 -- which messages are refused
 pub long_stops : (message : List ℕ) → most_bytes < length message → Stopped message TooLong
@@ -37,11 +36,18 @@ short_stops message h g = sym (refuses _ (laws.message_short message h g))
 
 -- a message that is refused, and so each answer about it
 module _ (message : List ℕ) (e : Refusal) (s : Stopped message e) where
+  stopped : {A : Type 0} → Refuses (message_checks message) (number_of e) × (says {A = A} e ≡ refused (number_of e))
+  stopped {A} =
+      says_as (λ (a : Answer (Unit {0})) (b : Answer A) k len. a ≡ checked (message_checks message) (given (tt {0}))
+      → Refuses (message_checks message) k × (b ≡ refused k))
+      (λ k h. (refused_by _ (tt {0}) k (sym h), refl))
+      (λ len h. let z : needs len ≡ given (tt {0}) = sym (passes _ _ (needs len) (needs_no len) (sym h)).1 in cc) e s
+
   refusing : Refuses (message_checks message) (number_of e)
-  refusing = (stopped _ {A = ℕ} e s).0
+  refusing = (stopped {A = ℕ}).0
 
   told_so : {A : Type 0} {a : Answer A} → a ≡ refused (number_of e) → says e ≡ a
-  told_so h = (stopped _ e s).1 ∙ sym h
+  told_so h = stopped.1 ∙ sym h
 
   pub field_stopped : (f : Part) → says e ≡ field f message
   field_stopped f = told_so (laws.field_refused message f refusing)
@@ -99,7 +105,7 @@ module _ (message : List ℕ) (least : least_message ≤ length message) (most :
   chaddr_alone e s = go (dec_le (28 + get_or message 2 0) (length message))
     where
       go : Dec (28 + get_or message 2 0 ≤ length message) → ChaddrTold message (number_of e, 0, false)
-      go (yes h) = let z : Err e ≡ Ok (rfc.address (get_or message 2 0)) = told_one _ _ (s ∙ chaddr_shown h) in cc
+      go (yes h) = absurd (says_given _ e (s ∙ chaddr_shown h))
       go (no h) =
           let cut : rfc.chaddr message ≡ refused 3 = chaddr_cut (omega arith) in
           let z : ◌≡◌ {A = Result rfc.Address Refusal} (Err e) (Err ChaddrPastEnd) = told_one _ _ (s ∙ cut) in

@@ -29,10 +29,10 @@ pub struct Chaddr {
     pub spills: bool,
 }
 
-// All fields at once, for callers in other languages too: this struct is the C interface's, with numbers for refusals. `refused` is the number of a refusal, 0 for none; where one is given,
-// everything else is 0 or false.
+// All fields at once, for callers in other languages too: the C interface needs numbers for refusals. `refused` is the number of a refusal,
+// 0 for none; where one is given, everything else is 0 or false.
 #[repr(C)]
-#[derive(Drop)]
+#[derive(Default, Drop)]
 pub struct Fields {
     pub xid: u32,
     pub ciaddr: u32,
@@ -58,7 +58,8 @@ pub struct Fields {
     pub wrong_magic: bool,
 }
 
-// Figure 1: where each field begins and how many bytes it has, and a reader for each.
+// Figure 1: where each field begins and how many bytes it has, and a reader for each. Other crates cite these numbers one by one, and call
+// the readers by their names.
 #[derive(Drop)]
 pub struct Header {}
 
@@ -378,23 +379,7 @@ fn refused_all(number: u8) -> Fields
     ensures { result ≡ none_of number }
 {
     Fields {
-        xid: 0,
-        ciaddr: 0,
-        yiaddr: 0,
-        siaddr: 0,
-        giaddr: 0,
-        secs: 0,
-        flags: 0,
-        sname: 0,
-        file: 0,
-        chaddr_own: 0,
         refused: number,
-        op: 0,
-        htype: 0,
-        hlen: 0,
-        hops: 0,
-        chaddr_refused: 0,
-        chaddr_spills: false,
-        wrong_magic: false,
+        ..Fields::default()
     }
 }
