@@ -26,7 +26,8 @@ use Rattle.borrowed.specs.declared.answer.Found as found
 use Rattle.borrowed.specs.declared.answer.Step.{Step}
 use Rattle.borrowed.specs.declared.answer.Step.TheVariants.{Stopped, Found}
 use Rattle.borrowed.specs.declared.parts.Run.{Run}
-use Rattle.borrowed.proofs.Refusals.{says_then, says_is, says_keeps, says_stays}
+use Rattle.refusal.proofs.Told.{says_then}
+use Rattle.borrowed.proofs.Refusals.{says_is, says_keeps, says_stays}
 use Rattle.borrowed.proofs.Runs.{whole_is, cut_is, run_ends}
 use Rattle.borrowed.proofs.Shown.{part_there, shown_one, shown_many}
 

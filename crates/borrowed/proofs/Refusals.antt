@@ -3,25 +3,15 @@
 use mathlib.Core.Path.{◌≡◌, refl}
 use Prim.Native.Nat.{ℕ}
 use mathlib.Core.List.{List}
-use Rattle.rfc.specs.Numbers.{Answer, given, refused, needs, and_then}
+use Rattle.rfc.specs.Numbers.{Answer, given, refused, needs}
 use Rattle.rfc.specs.Walk as rfc
 use Rattle.rfc.specs.Walk.{join_after, place_after}
 use Rattle.rfc.proofs.Walk.{refused_keeps, needs_keeps, refused_stays, needs_stays}
 use Rattle.refusal.specs.Told.{says}
 use Rattle.refusal.specs.declared.Refusal.{Refusal}
-use Rattle.refusal.proofs.Told.{says_as}
-use Rattle.refusal.proofs.Told.{says_as}
+use Rattle.refusal.proofs.Told.{says_as, says_given}
 use Rattle.borrowed.specs.Walked.{sizes}
 use Rattle.borrowed.specs.declared.answer.Step.{Step}
-
--- a refusal stands, whatever would be made of what was given
-pub says_then : {A B : Type 0} (f : A → Answer B) (e : Refusal) → and_then (says e) f ≡ says e
-unfolding and_then
-says_then {A} {B} f = says_as (λ (a : Answer A) (b : Answer B) k n. and_then a f ≡ b) (λ k. refl) (λ n. refl)
-
--- nothing is given
-pub says_given : {A : Type 0} (x : A) (e : Refusal) → says e ≡ given x → ⊥
-says_given {A} x = says_as (λ (a b : Answer A) k n. a ≡ given x → ⊥) (λ k e. cc) (λ n e. cc)
 
 -- by its numbers it is the same
 pub says_sized : (e : Refusal) → sizes (says e) ≡ says e

@@ -2,7 +2,7 @@
 -- Assumes nothing.
 use mathlib.Core.Path.{◌≡◌, refl, sym, ap, ◌∙◌}
 use Rattle.std.specs.Prelude.{ℕ, cond, eqb, Result, Ok, Err}
-use Rattle.rfc.specs.Numbers.{Answer, given, refused, needs}
+use Rattle.rfc.specs.Numbers.{Answer, given, refused, needs, and_then}
 use Rattle.refusal.specs.declared.Refusal.{Refusal}
 use Rattle.refusal.specs.declared.Refusal.TheVariants.{MessageTooShort, TooLong, ChaddrPastEnd, PastEnd, JoinTooShort, NoSuchCode, ValueTooLong, NoRoom, OtherKind, WrongLength, NotUtf8, WidthAbove32, OddPairs, UnclearYesNo, FieldCut, UnclearOverload, SizeAboveBuffer, DestinationBarred, NoOldForm}
 use Rattle.refusal.specs.Told.{says, told, number_of, needed_of}
@@ -89,3 +89,12 @@ says_as P numbered needing UnclearOverload = numbered 16
 says_as P numbered needing SizeAboveBuffer = numbered 17
 says_as P numbered needing DestinationBarred = numbered 18
 says_as P numbered needing NoOldForm = numbered 19
+
+-- a refusal stands, whatever would be made of what was given
+pub says_then : {A B : Type 0} (f : A → Answer B) (e : Refusal) → and_then (says e) f ≡ says e
+unfolding and_then
+says_then {A} {B} f = says_as (λ (a : Answer A) (b : Answer B) k len. and_then a f ≡ b) (λ k. refl) (λ n. refl)
+
+-- nothing is given
+pub says_given : {A : Type 0} (x : A) (e : Refusal) → says e ≡ given x → ⊥
+says_given {A} x = says_as (λ (a b : Answer A) k len. a ≡ given x → ⊥) (λ k e. cc) (λ n e. cc)
