@@ -30,8 +30,8 @@ class Token:
 class Function:
     crate: str
     file: Path
-    # As another crate writes it, without the crate's name: `look`, `lists::write_pairs`, `Header::op`; of a trait's it is what a proof writes:
-    # the type, the trait and the function, `FieldFrom::from`.
+    # As another crate writes it, without the crate's name: `look`, `lists::write_pairs`, `Header::op`; of a trait's it is what a proof writes,
+    # by the type, the trait and the function: `ValueFromHeld::from`.
     path: str
     # Whether other crates can call it. Of the traits' functions those that convert count.
     public: bool
@@ -111,8 +111,9 @@ def owner_of(found, at):
     head = [token.text for token in found[at + 1 : opening]]
     if "for" not in head:
         return head[0] + "::", False, opening
-    of = head[head.index("for") + 1]
-    return f"{of[0].upper()}{of[1:]}{head[0]}::", head[0] in CONVERSIONS, opening
+    trait = [word for word in head[: head.index("for")] if word[0].isalpha()]
+    words = [head[head.index("for") + 1], *trait]
+    return "".join(word[0].upper() + word[1:] for word in words) + "::", trait[0] in CONVERSIONS, opening
 
 
 def functions_in(crate, file, text, module, public):

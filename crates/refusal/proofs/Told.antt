@@ -1,42 +1,20 @@
 -- Back from what an answer tells to the answer.
 -- Assumes nothing.
 use mathlib.Core.Path.{◌≡◌, refl, sym, ap, ◌∙◌}
-use Rattle.std.specs.Prelude.{ℕ, cond, eqb, Result, Ok, Err}
+use Rattle.std.specs.Prelude.{ℕ, Result, Ok, Err}
 use Rattle.rfc.specs.Numbers.{Answer, given, refused, needs, and_then}
 use Rattle.refusal.specs.declared.Refusal.{Refusal}
 use Rattle.refusal.specs.declared.Refusal.TheVariants.{MessageTooShort, TooLong, ChaddrPastEnd, PastEnd, JoinTooShort, NoSuchCode, ValueTooLong, NoRoom, OtherKind, WrongLength, NotUtf8, WidthAbove32, OddPairs, UnclearYesNo, FieldCut, UnclearOverload, SizeAboveBuffer, DestinationBarred, NoOldForm}
-use Rattle.refusal.specs.Told.{says, told, number_of, needed_of}
-
--- the refusal that an answer has, where it has one
-back_of : ℕ → Refusal
-back_of n =
-    cond (eqb n 1) MessageTooShort (
-    cond (eqb n 2) TooLong (
-    cond (eqb n 3) ChaddrPastEnd (
-    cond (eqb n 4) PastEnd (
-    cond (eqb n 6) NoSuchCode (
-    cond (eqb n 7) ValueTooLong (
-    cond (eqb n 8) NoRoom (
-    cond (eqb n 9) OtherKind (
-    cond (eqb n 10) WrongLength (
-    cond (eqb n 11) NotUtf8 (
-    cond (eqb n 12) WidthAbove32 (
-    cond (eqb n 13) OddPairs (
-    cond (eqb n 14) UnclearYesNo (
-    cond (eqb n 15) FieldCut (
-    cond (eqb n 16) UnclearOverload (
-    cond (eqb n 17) SizeAboveBuffer (
-    cond (eqb n 18) DestinationBarred (
-    NoOldForm)))))))))))))))))
+use Rattle.refusal.specs.Told.{says, told, number_of, needed_of, refusal_of}
 
 module _ {A : Type 0} where
   back : Answer A → Result A Refusal
   back (given x) = Ok x
-  back (refused n) = Err (back_of n)
+  back (refused n) = Err (refusal_of n)
   back (needs len) = Err (JoinTooShort len)
 
   back_says : (e : Refusal) → back (says e) ≡ Err e
-  unfolding back back_of
+  unfolding back refusal_of
   back_says MessageTooShort = refl
   back_says TooLong = refl
   back_says ChaddrPastEnd = refl

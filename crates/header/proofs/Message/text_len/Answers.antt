@@ -3,15 +3,13 @@
 use mathlib.Core.Path.{◌≡◌}
 use Prim.Native.Nat.{◌+◌, ◌-◌}
 use native.Mathlib.Omega.{arith}
-use Rattle.rfc.specs.Header.{part, bytes_of, until_zero}
+use Rattle.rfc.specs.Header.{part}
 use Rattle.rfc.proofs.Header.{text_within}
-use Rattle.header.proofs.text_len.Goals as goal
+use Rattle.header.proofs.Message.text_len.Goals as goal
 
 pub overflow_cast-result : goal.overflow_cast-result
 overflow_cast-result c =
-    let counted : let a = c.args in c.until_zero.result ≡ until_zero (bytes_of (part a.start a.size) a.message.now) =
     let a = c.args in
     let n : a.start + a.size - a.start ≡ a.size = omega arith in
-    rw n at c.until_zero.ensures in
-    let a = c.args in
-    omega (arith, counted, text_within (part a.start a.size) a.message.now)
+    let counted = rw n at c.until_zero.ensures in
+    omega (arith, counted, text_within (part a.start a.size) a.self.bytes.now)
