@@ -88,8 +88,9 @@ def closing(found, at):
 
 def body_of(found, at):
     """The index of the brace that opens the body of the function at `at`, behind its clauses, or of the `;` in its place in a trait."""
-    i = at
-    while found[i].text not in ("{", ";"):
+    i, inside = at, 0
+    while found[i].text != "{" and (inside > 0 or found[i].text != ";"):
+        inside += {"[": 1, "]": -1}.get(found[i].text, 0)
         i = closing(found, i + 1) + 1 if found[i].text in ("requires", "ensures", "ghost") else i + 1
     return i
 
