@@ -30,14 +30,17 @@ class Token:
 class Function:
     crate: str
     file: Path
-    # As another crate writes it, without the crate's name: `look`, `lists::write_pairs`, `Header::op`.
+    # As another crate writes it, without the crate's name: `look`, `lists::write_pairs`, `Header::op`; of a trait's it is what a proof writes,
+    # by the type, the trait and the function: `ValueFromHeld::from`.
     path: str
-    # Whether other crates can call it.
+    # Whether other crates can call it. Of the traits' functions those that convert count.
     public: bool
     # Where its text begins, and where its body stands in it, braces included.
     start: int
     body: int
     end: int
+    # Where the ghost members stand that say what it promises, before it in its `impl` of a trait.
+    ghosts: int = -1
 
     @property
     def name(self):
@@ -46,8 +49,9 @@ class Function:
     @property
     def head(self):
         """Its signature, and its contract."""
-        signature, _, contract = self.file.read_text()[self.start : self.body].partition("ensures")
-        return signature, contract
+        text = self.file.read_text()
+        signature, _, contract = text[self.start : self.body].partition("ensures")
+        return signature, text[self.ghosts : self.start] if self.ghosts >= 0 else contract
 
 
 def tokens(text):
@@ -83,9 +87,10 @@ def closing(found, at):
 
 
 def body_of(found, at):
-    """The index of the brace that opens the body of the function at `at`, behind its clauses."""
-    i = at
-    while found[i].text != "{":
+    """The index of the brace that opens the body of the function at `at`, behind its clauses, or of the `;` in its place in a trait."""
+    i, inside = at, 0
+    while found[i].text != "{" and (inside > 0 or found[i].text != ";"):
+        inside += {"[": 1, "]": -1}.get(found[i].text, 0)
         i = closing(found, i + 1) + 1 if found[i].text in ("requires", "ensures", "ghost") else i + 1
     return i
 
@@ -97,20 +102,38 @@ def first_of(found, at):
     return at
 
 
+# The traits whose functions other crates call as conversions.
+CONVERSIONS = ("From", "TryFrom")
+
+
+def owner_of(found, at):
+    """What stands before the names of the functions of the `impl` at `at`, whether it is one of a conversion, and where its brace opens."""
+    opening = next(i for i in range(at, len(found)) if found[i].text == "{")
+    head = [token.text for token in found[at + 1 : opening]]
+    if "for" not in head:
+        return head[0] + "::", False, opening
+    trait = [word for word in head[: head.index("for")] if word[0].isalpha()]
+    words = [head[head.index("for") + 1], *trait]
+    return "".join(word[0].upper() + word[1:] for word in words) + "::", trait[0] in CONVERSIONS, opening
+
+
 def functions_in(crate, file, text, module, public):
     """The functions of one source, whose module is public or not."""
     found, result, i = tokens(text), [], 0
-    owner, owner_end = "", 0
+    owner, owner_end, converts, ghosts = "", 0, False, -1
     while i < len(found):
-        owner = owner if i < owner_end else ""
+        if i >= owner_end:
+            owner, converts, ghosts = "", False, -1
         if found[i].text == "impl":
-            owner, owner_end = found[i + 1].text + "::", closing(found, i + 2)
+            owner, converts, opening = owner_of(found, i)
+            owner_end = closing(found, opening)
+            ghosts = found[opening].end if converts else -1
         elif found[i].text == "fn":
             first, body = found[first_of(found, i)], body_of(found, i)
-            end = closing(found, body)
+            end = closing(found, body) if found[body].text == "{" else body
             path = module + owner + found[i + 1].text
-            seen = public and first.text == "pub"
-            result.append(Function(crate, file, path, seen, first.start, found[body].start, found[end].end))
+            seen = public and (first.text == "pub" or converts)
+            result.append(Function(crate, file, path, seen, first.start, found[body].start, found[end].end, ghosts))
             i = end
         i += 1
     return result

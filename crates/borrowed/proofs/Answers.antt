@@ -6,22 +6,28 @@ use native.Mathlib.Omega.{arith}
 use mathlib.Core.List.{List, [], ◌++◌}
 use lib.ListN.{length, take, drop, get_or, length-append, length-drop}
 use lib.Seq.{length-take-le}
+use Rattle.std.specs.Prelude.{Option, Some, None, Result, Ok, Err}
 use Rattle.facts.specs.Over.{over}
 use Rattle.facts.proofs.Over.{length_over, shown_over}
-use Rattle.rfc.specs.Numbers.{Answer, given, refused, needs, most_bytes}
+use Rattle.rfc.specs.Numbers.{Answer, given, refused, needs, and_then, pad_code, end_code, most_bytes}
 use Rattle.rfc.specs.Walk as rfc
 use Rattle.rfc.specs.Walk.{run, further, joined, walk, room_for, look, join_after, place_after, stop, option}
-use Rattle.rfc.proofs.Walk.{step_found, step_refused, step_needs, stop_moves, option_moves, refused_stays, needs_stays}
-use Rattle.rfc.proofs.Walk.{joined_cut, joined_run, stop_answered, stop_keeps, refused_keeps, needs_keeps}
+use Rattle.rfc.proofs.Walk.{step_looks, step_found, stop_moves, option_moves}
+use Rattle.rfc.proofs.Walk.{joined_cut, joined_run, stop_answered, stop_keeps, needs_keeps}
 use Rattle.rfc.proofs.Walk.{one_answered, one_keeps, many_answered, many_joined, many_needs, look_walks, step_alike}
 use Rattle.rfc.proofs.Places.{Stands, look_stands, whole_at, some_at}
-use Rattle.borrowed.specs.Walked.{values, values_at, stop_of, stop_back, sizes, size_of, Inside, Walked, Stepped, behind, Starts, Continues, PartsTo, shown, says, place_of}
+use Rattle.refusal.specs.Told as refusal
+use Rattle.refusal.specs.declared.Refusal.{Refusal}
+use Rattle.refusal.specs.declared.Refusal.TheVariants.{JoinTooShort}
+use Rattle.borrowed.specs.Walked.{values, values_at, stop_of, stop_back, sizes, size_of, Inside, Walked, Stepped, OnePart, behind, Starts, Continues, PartsTo, shown, says, place_of}
 use Rattle.borrowed.specs.declared.answer.Stop.{Stop}
 use Rattle.borrowed.specs.declared.answer.Stop.TheVariants.{CutContinuation}
+use Rattle.borrowed.specs.declared.answer.Found as found
 use Rattle.borrowed.specs.declared.answer.Step.{Step}
-use Rattle.borrowed.specs.declared.answer.Step.TheVariants.{Stopped, Found, Refused, Needs}
+use Rattle.borrowed.specs.declared.answer.Step.TheVariants.{Stopped, Found}
 use Rattle.borrowed.specs.declared.parts.Run.{Run}
-use Rattle.borrowed.specs.declared.parts.Run.TheVariants.{Cut, Whole}
+use Rattle.refusal.proofs.Told.{says_then}
+use Rattle.borrowed.proofs.Refusals.{says_is, says_keeps, says_stays}
 use Rattle.borrowed.proofs.Runs.{whole_is, cut_is, run_ends}
 use Rattle.borrowed.proofs.Shown.{part_there, shown_one, shown_many}
 
@@ -29,6 +35,12 @@ use Rattle.borrowed.proofs.Shown.{part_there, shown_one, shown_many}
 pub looked : (area : List ℕ) (at : ℕ) {f : rfc.Found} → length area ≤ most_bytes → at ≤ length area → walk at (drop at area) ≡ f
     → sizes (given f) ≡ sizes (look area at)
 looked area at s h e = ap (λ (g : rfc.Found). sizes (given g)) (sym e) ∙ ap sizes (sym (look_walks area at s h))
+
+-- a whole part that is neither Pad nor End
+pub starts_at : (area : List ℕ) (at : ℕ) → length area ≤ most_bytes → behind area at ≤ length area
+    → (get_or area at 0 ≡ pad_code → ⊥) → (get_or area at 0 ≡ end_code → ⊥) → Starts area at
+starts_at area at small within other goes_on =
+    record { small = small; inside = omega arith; other = other; goes_on = goes_on; within = within }
 
 -- what a call finds where a whole part begins, by the further parts
 module _ {area : List ℕ} {at : ℕ} (s : Starts area at) where
@@ -44,31 +56,47 @@ module _ {area : List ℕ} {at : ℕ} (s : Starts area at) where
   finds : {f : rfc.Found} → joined code v (behind area at) more ≡ f → sizes (given f) ≡ sizes (look area at)
   finds e = looked area at s.small (omega (arith, s.inside)) (whole_at area at s.inside s.other s.goes_on s.within ∙ e)
 
-  pub starts_cut : Cut ≡ size_of more → Stopped CutContinuation (behind area at) ≡ sizes (look area at)
+  pub starts_cut : None ≡ size_of more → given (Stopped CutContinuation (behind area at)) ≡ sizes (look area at)
   starts_cut e = finds (joined_cut _ v _ more (cut_is more e))
 
-  module _ {parts len : ℕ} (e : Whole parts len ≡ size_of more) where
-    pub starts_ends : behind area at + (2 * parts + len) ≤ length area
-    starts_ends = run_ends area (behind area at) code parts len s.within e
+  module _ (w : Run) (e : Some w ≡ size_of more) where
+    pub starts_ends : behind area at + (2 * w.parts + w.len) ≤ length area
+    starts_ends = run_ends area (behind area at) code w s.within e
 
-    pub starts_whole : Found code (parts + 1) (get_or area (at + 1) 0 + len) (behind area at + 2 * parts + len) ≡ sizes (look area at)
+    -- an option of all the parts
+    abbrev pub whole : found.Found
+    whole =
+        record {
+          code = get_or area at 0;
+          parts = w.parts + 1;
+          len = get_or area (at + 1) 0 + w.len;
+          place = behind area at + 2 * w.parts + w.len;
+        }
+
+    pub starts_whole : given (Found whole) ≡ sizes (look area at)
     starts_whole =
-        let w = whole_is parts len more e in
+        let is = whole_is w more e in
         let l = length-take-le (get_or area (at + 1) 0) (drop (at + 2) area) (omega (arith, s.within, length-drop (at + 2) area)) in
-        let a : get_or area (at + 1) 0 + len ≡ length (v ++ values more) = omega (arith, length-append v (values more), w.1) in
-        let b : behind area at + 2 * parts + len ≡ behind area at + (2 * parts + length (values more)) = omega (arith, w.1) in
-        (λ i. Found code (parts + 1) (a i) (b i)) ∙ finds (joined_run _ v _ more parts (values more) w.0)
+        let a : get_or area (at + 1) 0 + w.len ≡ length (v ++ values more) = omega (arith, length-append v (values more), is.1) in
+        let b : behind area at + 2 * w.parts + w.len ≡ behind area at + (2 * w.parts + length (values more)) = omega (arith, is.1) in
+        (λ i. given (Found (record { code = code; parts = w.parts + 1; len = a i; place = b i })))
+        ∙ finds (joined_run _ v _ more w.parts (values more) is.0)
 
-  pub starts_alone : more ≡ run 0 [] → Found code 1 (get_or area (at + 1) 0) (behind area at) ≡ sizes (look area at)
+  -- an option of one part
+  abbrev pub alone : found.Found
+  alone = record { code = get_or area at 0; parts = 1; len = get_or area (at + 1) 0; place = behind area at }
+
+  pub starts_alone : more ≡ run 0 [] → given (Found alone) ≡ sizes (look area at)
   starts_alone e =
       let a : get_or area (at + 1) 0 ≡ get_or area (at + 1) 0 + 0 = omega arith in
       let b : behind area at ≡ behind area at + 2 * 0 + 0 = omega arith in
-      (λ i. Found code 1 (a i) (b i)) ∙ starts_whole (sym (ap size_of e))
+      (λ i. given (Found (record { code = code; parts = 1; len = a i; place = b i })))
+      ∙ starts_whole (record { parts = 0; len = 0 }) (sym (ap size_of e))
 
 -- where another part follows, the further parts are some
-pub some_further : {area : List ℕ} {at parts len : ℕ} (c : Continues area at) → Whole parts len ≡ size_of (more c.starts) → 1 ≤ parts
-some_further {area} {at} {parts} {len} c e =
-    some_at area (behind area at) (get_or area at 0) parts _ c.inside c.same (whole_is parts len (more c.starts) e).0
+pub some_further : {area : List ℕ} {at : ℕ} (c : Continues area at) (w : Run) → Some w ≡ size_of (more c.starts) → 1 ≤ w.parts
+some_further {area} {at} c w e =
+    some_at area (behind area at) (get_or area at 0) w.parts _ c.inside c.same (whole_is w (more c.starts) e).0
 
 -- back from its numbers to what was found
 stop-of : (s : rfc.Stop) → stop_of (stop_back s) ≡ s
@@ -78,7 +106,7 @@ stop-of rfc.cut_length = refl
 stop-of rfc.cut_value = refl
 stop-of rfc.cut_continuation = refl
 
-pub stopped_is : (s : Stop) (place : ℕ) (a : Answer rfc.Found) → Stopped s place ≡ sizes a → a ≡ given (stop (stop_of s) place)
+pub stopped_is : (s : Stop) (place : ℕ) (a : Answer rfc.Found) → given (Stopped s place) ≡ sizes a → a ≡ given (stop (stop_of s) place)
 stopped_is s place (given (stop t at)) e =
     let back : stop_back t ≡ s = cc in
     let there : at ≡ place = cc in
@@ -87,27 +115,17 @@ stopped_is s place (given (option c v n at)) e = cc
 stopped_is s place (refused k) e = cc
 stopped_is s place (needs n) e = cc
 
-pub found_is : (code parts len place : ℕ) (a : Answer rfc.Found) → Found code parts len place ≡ sizes a
-    → (v : List ℕ) × (a ≡ given (option code v parts place)) × (length v ≡ len)
-found_is code parts len place (given (stop s at)) e = ([], cc, cc)
-found_is code parts len place (given (option c v n at)) e = (v, cc, cc)
-found_is code parts len place (refused k) e = ([], cc, cc)
-found_is code parts len place (needs n) e = ([], cc, cc)
-
-pub refused_is : (k : ℕ) (a : Answer rfc.Found) → Refused k ≡ sizes a → a ≡ refused k
-refused_is k (given (stop s at)) e = cc
-refused_is k (given (option c v n at)) e = cc
-refused_is k (refused j) e = cc
-refused_is k (needs n) e = cc
-
-pub needs_is : (n : ℕ) (a : Answer rfc.Found) → Needs n ≡ sizes a → a ≡ needs n
-needs_is n (given (stop s at)) e = cc
-needs_is n (given (option c v k at)) e = cc
-needs_is n (refused k) e = cc
-needs_is n (needs m) e = cc
+pub found_is : (f : found.Found) (a : Answer rfc.Found) → given (Found f) ≡ sizes a
+    → (v : List ℕ) × (a ≡ given (option f.code v f.parts f.place)) × (length v ≡ f.len)
+found_is f (given (stop s at)) e = ([], cc, cc)
+found_is f (given (option c v n at)) e =
+    let same : record { code = c; parts = n; len = length v; place = at } ≡ f = cc in
+    (v, ap (λ (g : found.Found). given (option g.code v g.parts g.place)) same, ap (λ (g : found.Found). g.len) same)
+found_is f (refused k) e = ([], cc, cc)
+found_is f (needs n) e = ([], cc, cc)
 
 -- an answer that leaves the join buffer
-stays : {area join : List ℕ} {a : Answer rfc.Found} (r : Step) → says r area join ≡ a → Inside r area join
+stays : {area join : List ℕ} {a : Answer rfc.Found} (r : Result Step Refusal) → says r area join ≡ a → Inside r area join
     → join_after (says r area join) join ≡ join → Walked area join join r a
 stays {join = join} r e i k = record { told = e; inside = i; kept = sym k ∙ ap (λ (x : Answer rfc.Found). join_after x join) e }
 
@@ -116,23 +134,22 @@ module _ (area join : List ℕ) (place : ℕ) where
   abbrev room : ℕ
   room = length join
 
-  pub passes_stop : (s : Stop) (at : ℕ) → Stopped s at ≡ sizes (look area place) → Stepped area place join join (Stopped s at)
+  pub passes_stop : (s : Stop) (at : ℕ) → given (Stopped s at) ≡ sizes (look area place) → Stepped area place join join (Ok (Stopped s at))
   passes_stop s at e =
       let is = stopped_is s at (look area place) e in
-      stays (Stopped s at) (sym (step_found area place room _ is ∙ stop_answered room _ at)) tt (stop_keeps join _ at)
+      stays (Ok (Stopped s at)) (sym (step_found area place room _ is ∙ stop_answered room _ at)) tt (stop_keeps join _ at)
 
-  pub passes_refused : (k : ℕ) → Refused k ≡ sizes (look area place) → Stepped area place join join (Refused k)
-  passes_refused k e =
-      let is = refused_is k (look area place) e in
-      stays (Refused k) (sym (step_refused area place room k is)) tt (refused_keeps join k)
-
-  pub passes_needs : (n : ℕ) → Needs n ≡ sizes (look area place) → Stepped area place join join (Needs n)
-  passes_needs n e =
-      let is = needs_is n (look area place) e in
-      stays (Needs n) (sym (step_needs area place room n is)) tt (needs_keeps join n)
+  pub passes_refused : (e : Refusal) → refusal.says e ≡ sizes (look area place) → Stepped area place join join (Err e)
+  passes_refused e h =
+      stays (Err e)
+      (sym
+      (step_looks area place room
+      ∙ ap (λ (a : Answer rfc.Found). and_then a (room_for room)) (says_is e (look area place) h)
+      ∙ says_then (room_for room) e))
+      tt (says_keeps join e)
 
   -- a call that finds what a call at another place finds answers what that answers
-  pub passes_on : (at : ℕ) {join' : List ℕ} {r : Step} → look area place ≡ look area at → Stepped area at join join' r
+  pub passes_on : (at : ℕ) {join' : List ℕ} {r : Result Step Refusal} → look area place ≡ look area at → Stepped area at join join' r
       → Stepped area place join join' r
   passes_on at e w = rw (step_alike area place at room e) w
 
@@ -145,101 +162,108 @@ shown_stands {area} {code} {v} {n} {at} s h join =
     ∙ sym (s.one (omega (arith, s.some)))
 
 -- an option that a call found, by its numbers
-module _ (area : List ℕ) (place : ℕ) {code parts len to : ℕ} (e : Found code parts len to ≡ sizes (look area place)) where
+module _ (area : List ℕ) (place : ℕ) (f : found.Found) (e : given (Found f) ≡ sizes (look area place)) where
   abbrev value : List ℕ
-  value = (found_is code parts len to (look area place) e).0
+  value = (found_is f (look area place) e).0
 
-  is_found : look area place ≡ given (option code value parts to)
-  is_found = (found_is code parts len to (look area place) e).1
+  is_found : look area place ≡ given (option f.code value f.parts f.place)
+  is_found = (found_is f (look area place) e).1
 
-  long : length value ≡ len
-  long = (found_is code parts len to (look area place) e).2
+  long : length value ≡ f.len
+  long = (found_is f (look area place) e).2
 
-  stands : Stands area code value parts to
-  stands = look_stands area code value parts to place is_found
+  stands : Stands area f.code value f.parts f.place
+  stands = look_stands area f.code value f.parts f.place place is_found
 
   -- its answer is the call's
-  answered : {join join' : List ℕ} → Walked area join join' (Found code parts len to) (room_for (length join) (option code value parts to))
-      → Stepped area place join join' (Found code parts len to)
+  answered : {join join' : List ℕ} → Walked area join join' (Ok (Found f)) (room_for (length join) (option f.code value f.parts f.place))
+      → Stepped area place join join' (Ok (Found f))
   answered {join} w = rw (step_found area place (length join) _ is_found) w
 
-  module _ {join : List ℕ} where
-    pub passes_alone : parts ≡ 1 → Stepped area place join join (Found code parts len to)
-    passes_alone one =
-        let s = stands in
-        let shows = ap (λ (n : ℕ). shown parts n to area join) (sym long) ∙ shown_stands s (omega arith) join in
-        answered
-        (stays (Found code parts len to)
-        (ap (λ (x : List ℕ). given (option code x parts to)) shows
-        ∙ sym (one_answered (length join) code value parts to (omega arith)))
-        (λ _. omega (arith, s.fits, long), s.within, λ k. absurd (let f : ⊥ = omega arith in f))
-        (one_keeps join code _ parts to (omega arith)))
+  pub passes_alone : {join : List ℕ} → f.parts ≡ 1 → Stepped area place join join (Ok (Found f))
+  passes_alone {join} one =
+      let s = stands in
+      let shows = ap (λ (n : ℕ). shown f.parts n f.place area join) (sym long) ∙ shown_stands s (omega arith) join in
+      answered
+      (stays (Ok (Found f))
+      (ap (λ (x : List ℕ). given (option f.code x f.parts f.place)) shows
+      ∙ sym (one_answered (length join) f.code value f.parts f.place (omega arith)))
+      (λ _. omega (arith, s.fits, long), s.within, λ k. absurd (let f : ⊥ = omega arith in f))
+      (one_keeps join f.code _ f.parts f.place (omega arith)))
+
+-- a stop, or an option of one part
+pub passes_done : (area join : List ℕ) (place : ℕ) (s : Step) → given s ≡ sizes (look area place) → OnePart s
+    → Stepped area place join join (Ok s)
+passes_done area join place (Stopped s at) e one = passes_stop area join place s at e
+passes_done area join place (Found f) e one = passes_alone area place f e one
 
 -- an option of several parts that a call found where it begins
-module _ {area : List ℕ} {at : ℕ} (c : Continues area at) {code parts len to : ℕ} (e : Found code parts len to ≡ sizes (look area at)) where
+module _ {area : List ℕ} {at : ℕ} (c : Continues area at) (f : found.Found) (e : given (Found f) ≡ sizes (look area at)) where
   -- its numbers: it has two parts or more, and they stand from the place on
-  numbers : (r : Run) → r ≡ size_of (more c.starts) → (get_or area at 0 ≡ code) × (2 ≤ parts) × (to ≡ at + (2 * parts + len))
-  numbers Cut w =
-      let f : Stopped CutContinuation (behind area at) ≡ Found code parts len to = starts_cut c.starts w ∙ sym e in
+  numbers : (r : Option Run) → r ≡ size_of (more c.starts)
+      → (get_or area at 0 ≡ f.code) × (2 ≤ f.parts) × (f.place ≡ at + (2 * f.parts + f.len))
+  numbers None w =
+      let f : given (Stopped CutContinuation (behind area at)) ≡ given (Found f) = starts_cut c.starts w ∙ sym e in
       let z : ◌≡◌ {A = ℕ} 0 1 = cc in
       absurd (omega arith)
-  numbers (Whole p l) w =
-      let f : Found (get_or area at 0) (p + 1) (get_or area (at + 1) 0 + l) (behind area at + 2 * p + l) ≡ Found code parts len to =
-      starts_whole c.starts w ∙ sym e in
-      let q : get_or area at 0 ≡ code = cc in
-      let a : p + 1 ≡ parts = cc in
-      let b : get_or area (at + 1) 0 + l ≡ len = cc in
-      let d : behind area at + 2 * p + l ≡ to = cc in
-      (q, omega (arith, some_further c w), omega arith)
+  numbers (Some w) h =
+      let both : given (Found (whole c.starts w h)) ≡ given (Found f) = starts_whole c.starts w h ∙ sym e in
+      let same : whole c.starts w h ≡ f = cc in
+      let a : w.parts + 1 ≡ f.parts = ap (λ (g : found.Found). g.parts) same in
+      let b : get_or area (at + 1) 0 + w.len ≡ f.len = ap (λ (g : found.Found). g.len) same in
+      let d : behind area at + 2 * w.parts + w.len ≡ f.place = ap (λ (g : found.Found). g.place) same in
+      (ap (λ (g : found.Found). g.code) same, omega (arith, some_further c w h), omega arith)
 
-  are : (get_or area at 0 ≡ code) × (2 ≤ parts) × (to ≡ at + (2 * parts + len))
+  are : (get_or area at 0 ≡ f.code) × (2 ≤ f.parts) × (f.place ≡ at + (2 * f.parts + f.len))
   are = numbers (size_of (more c.starts)) refl
 
   -- so all its parts are the run at the place
-  all_parts : further (get_or area at 0) (drop at area) ≡ run parts (value area at e)
+  all_parts : further (get_or area at 0) (drop at area) ≡ run f.parts (value area at f e)
   all_parts =
-      let start : at ≡ to - (2 * parts + length (value area at e)) = omega (arith, are.2, long area at e) in
-      (λ i. further (are.0 i) (drop (start i) area)) ∙ (stands area at e).parts
+      let start : at ≡ f.place - (2 * f.parts + length (value area at f e)) = omega (arith, are.2, long area at f e) in
+      (λ i. further (are.0 i) (drop (start i) area)) ∙ (stands area at f e).parts
 
-  pub parts_to : {room : ℕ} → len ≤ room → PartsTo area at to room
+  pub parts_to : {room : ℕ} → f.len ≤ room → PartsTo area at f.place room
   parts_to h =
-      let v : values_at area at ≡ value area at e = ap values all_parts in
+      let v : values_at area at ≡ value area at f e = ap values all_parts in
       record {
-        parts = parts;
-        whole = all_parts ∙ ap (run parts) (sym v);
-        ends = omega (arith, are.2, long area at e, ap length v);
-        fits = omega (arith, long area at e, ap length v);
+        parts = f.parts;
+        whole = all_parts ∙ ap (run f.parts) (sym v);
+        ends = omega (arith, are.2, long area at f e, ap length v);
+        fits = omega (arith, long area at f e, ap length v);
       }
 
   module _ {join : List ℕ} where
-    pub passes_short : length join < len → Stepped area at join join (Needs len)
+    pub passes_short : length join < f.len → Stepped area at join join (Err (JoinTooShort f.len))
     passes_short g =
-        let is = many_needs (length join) code (value area at e) parts to (omega (arith, are.1)) (omega (arith, long area at e)) in
-        stays (Needs len)
-        (ap (λ (n : ℕ). needs n) (sym (long area at e)) ∙ sym (step_found area at (length join) _ (is_found area at e) ∙ is)) tt (needs_keeps join len)
+        let n = long area at f e in
+        let is = many_needs (length join) f.code (value area at f e) f.parts f.place (omega (arith, are.1)) (omega (arith, n)) in
+        stays (Err (JoinTooShort f.len))
+        (ap (λ (n : ℕ). needs n) (sym n) ∙ sym (step_found area at (length join) _ (is_found area at f e) ∙ is)) tt
+        (needs_keeps join f.len)
 
-    pub passes_joined : {join' : List ℕ} → join' ≡ over join 0 (values_at area at) → len ≤ length join
-        → Stepped area at join join' (Found code parts len to)
+    pub passes_joined : {join' : List ℕ} → join' ≡ over join 0 (values_at area at) → f.len ≤ length join
+        → Stepped area at join join' (Ok (Found f))
     passes_joined {join'} j g =
-        let v : List ℕ = value area at e in
+        let v : List ℕ = value area at f e in
+        let n : length v ≡ f.len = long area at f e in
         let put : join' ≡ over join 0 v = j ∙ ap (over join 0) (ap values all_parts) in
-        let fits : 0 + length v ≤ length join = omega (arith, long area at e) in
+        let fits : 0 + length v ≤ length join = omega arith in
         let size : length join' ≡ length join = ap length put ∙ length_over join 0 v fits in
-        let there : take len join' ≡ v = (λ i. take (sym (long area at e) i) (put i)) ∙ shown_over join 0 v fits in
-        let is = many_answered (length join) code v parts to (omega (arith, are.1)) (omega (arith, long area at e)) in
-        answered area at e
+        let there : take f.len join' ≡ v = (λ i. take (sym n i) (put i)) ∙ shown_over join 0 v fits in
+        let is = many_answered (length join) f.code v f.parts f.place (omega (arith, are.1)) (omega arith) in
+        answered area at f e
         (record {
           told =
-              ap (λ (x : List ℕ). given (option code x parts to))
-              (shown_many parts len to area join' (omega (arith, are.1)) ∙ part_there join' 0 len (omega arith) ∙ there)
+              ap (λ (x : List ℕ). given (option f.code x f.parts f.place))
+              (shown_many f.parts f.len f.place area join' (omega (arith, are.1)) ∙ part_there join' 0 f.len (omega arith) ∙ there)
               ∙ sym is;
-          inside = (λ _. omega (arith, are.2), (stands area at e).within, λ _. omega arith);
-          kept = put ∙ sym (ap (λ (x : Answer rfc.Found). join_after x join) is ∙ many_joined join code v parts to (omega (arith, are.1)));
+          inside = (λ _. omega (arith, are.2), (stands area at f e).within, λ _. omega arith);
+          kept = put ∙ sym (ap (λ (x : Answer rfc.Found). join_after x join) is ∙ many_joined join f.code v f.parts f.place (omega (arith, are.1)));
         })
 
 -- where the walk goes on is what the definition says of what was answered
-pub place_says : (r : Step) (area join : List ℕ) (place : ℕ) → place_of r place ≡ place_after (says r area join) place
-place_says (Stopped s at) area join place = sym (stop_moves (stop_of s) at place)
-place_says (Found code parts len at) area join place = sym (option_moves code _ parts at place)
-place_says (Refused k) area join place = sym (refused_stays k place)
-place_says (Needs n) area join place = sym (needs_stays n place)
+pub place_says : (r : Result Step Refusal) (area join : List ℕ) (place : ℕ) → place_of r place ≡ place_after (says r area join) place
+place_says (Ok (Stopped s at)) area join place = sym (stop_moves (stop_of s) at place)
+place_says (Ok (Found f)) area join place = sym (option_moves f.code _ f.parts f.place place)
+place_says (Err e) area join place = sym (says_stays place e)

@@ -6,13 +6,14 @@ use native.Mathlib.Omega.{arith}
 use mathlib.Core.List.{List, [], ◌++◌}
 use lib.ListN.{length, take, drop, get_or, length-drop}
 use lib.Seq.{length-take-le, drop-drop, take-length}
+use Rattle.std.specs.Prelude.{Result}
 use Rattle.facts.specs.Over.{over}
 use Rattle.facts.proofs.Over.{over_nil, over_next, length_over}
 use Rattle.rfc.specs.Walk.{further, run}
 use Rattle.rfc.specs.Writing.{write_slice}
 use Rattle.rfc.proofs.Places.{Next, next_at, run_none}
+use Rattle.refusal.specs.declared.Refusal.{Refusal}
 use Rattle.encoder.specs.Written.{Wrote}
-use Rattle.encoder.specs.declared.Written.{Written}
 use Rattle.encoder.proofs.Answers.{put_part}
 use Rattle.borrowed.specs.Walked.{PartsTo, behind, values_at}
 
@@ -74,7 +75,7 @@ module _ {area : List ℕ} {at end : ℕ} {join₀ join : List ℕ} {i to : ℕ}
     part_fits = (next-part.within, omega (arith, value_fits, s.fits, s.keeps))
 
     -- its value is written into just its part of the join buffer
-    pub joined_more : {part : List ℕ} {r : Written}
+    pub joined_more : {part : List ℕ} {r : Result ℕ Refusal}
         → Wrote (write_slice (take (i + 2 + n - (i + 2)) (drop (i + 2) area)) (take (to + n - to) (drop to join)) 0)
         (take (to + n - to) (drop to join)) part 0 r
         → Joined area at end join₀ (take to join ++ (part ++ drop (to + n - to) (drop to join))) (behind area i) (to + n)

@@ -6,38 +6,43 @@ use native.Mathlib.Omega.{arith}
 use mathlib.Core.List.{List, [], ◌++◌}
 use lib.ListN.{length, take, drop, get_or, length-drop, length-append}
 use lib.Seq.{length-take-le}
+use Rattle.std.specs.Prelude.{Option, Some, None}
 use Rattle.rfc.specs.Walk as rfc
 use Rattle.rfc.specs.Walk.{cut, run, extend, further}
 use Rattle.rfc.proofs.Walk.{extend_cut, extend_run}
-use Rattle.rfc.proofs.Places.{further_more_at, run_within}
+use Rattle.rfc.proofs.Places.{further_none_at, further_other_at, further_no_length_at, further_no_value_at, further_more_at, run_within}
 use Rattle.borrowed.specs.Walked.{size_of, values}
 use Rattle.borrowed.specs.declared.parts.Run.{Run}
-use Rattle.borrowed.specs.declared.parts.Run.TheVariants.{Cut, Whole}
 
 -- a run that is known by its numbers
-pub whole_is : (parts len : ℕ) (r : rfc.Run) → Whole parts len ≡ size_of r → (r ≡ run parts (values r)) × (length (values r) ≡ len)
-whole_is parts len cut e = (cc, cc)
-whole_is parts len (run n vs) e = (cc, cc)
+pub whole_is : (w : Run) (r : rfc.Run) → Some w ≡ size_of r → (r ≡ run w.parts (values r)) × (length (values r) ≡ w.len)
+whole_is w cut e = (cc, cc)
+whole_is w (run n vs) e =
+    let same : w ≡ record { parts = n; len = length vs } = cc in
+    (ap (λ (q : Run). run q.parts vs) (sym same), ap (λ (q : Run). q.len) (sym same))
 
-pub cut_is : (r : rfc.Run) → Cut ≡ size_of r → r ≡ cut
+pub cut_is : (r : rfc.Run) → None ≡ size_of r → r ≡ cut
 cut_is cut e = refl
 cut_is (run n vs) e = cc
 
 -- the further parts lie in the area
-pub run_ends : (area : List ℕ) (at code parts len : ℕ) → at ≤ length area → Whole parts len ≡ size_of (further code (drop at area))
-    → at + (2 * parts + len) ≤ length area
-run_ends area at code parts len h e =
-    let w = whole_is parts len (further code (drop at area)) e in
-    omega (arith, w.1, run_within code (drop at area) parts _ w.0, length-drop at area)
+pub run_ends : (area : List ℕ) (at code : ℕ) (w : Run) → at ≤ length area → Some w ≡ size_of (further code (drop at area))
+    → at + (2 * w.parts + w.len) ≤ length area
+run_ends area at code w h e =
+    let is = whole_is w (further code (drop at area)) e in
+    omega (arith, is.1, run_within code (drop at area) w.parts _ is.0, length-drop at area)
 
 -- so many parts, with so many bytes, in front of a run
-abbrev pub grow : ℕ → ℕ → Run → Run
-grow parts len Cut = Cut
-grow parts len (Whole n m) = Whole (parts + n) (len + m)
+abbrev pub grow : ℕ → ℕ → Option Run → Option Run
+grow parts len None = None
+grow parts len (Some w) = Some (record { parts = parts + w.parts; len = len + w.len })
 
-pub grow_none : (r : Run) → r ≡ grow 0 0 r
-grow_none Cut = refl
-grow_none (Whole n m) = let a : n ≡ 0 + n = omega arith in let b : m ≡ 0 + m = omega arith in λ i. Whole (a i) (b i)
+pub grow_none : (r : Option Run) → r ≡ grow 0 0 r
+grow_none None = refl
+grow_none (Some w) =
+    let a : w.parts ≡ 0 + w.parts = omega arith in
+    let b : w.len ≡ 0 + w.len = omega arith in
+    λ i. Some (record { parts = a i; len = b i })
 
 -- one part more
 grow_more : (parts len n : ℕ) (v : List ℕ) (r : rfc.Run) → length v ≡ n
@@ -46,16 +51,16 @@ grow_more parts len n v cut e = ap (λ (q : rfc.Run). grow parts len (size_of q)
 grow_more parts len n v (run k vs) e =
     let a : parts + suc k ≡ parts + 1 + k = omega arith in
     let b : len + length (v ++ vs) ≡ len + n + length vs = omega (arith, length-append v vs) in
-    ap (λ (q : rfc.Run). grow parts len (size_of q)) (extend_run v k vs) ∙ (λ i. Whole (a i) (b i))
+    ap (λ (q : rfc.Run). grow parts len (size_of q)) (extend_run v k vs) ∙ (λ i. Some (record { parts = a i; len = b i }))
 
 -- the end of a scan: no further part, so what has been counted is all
-pub grow_run : (parts len : ℕ) (r : rfc.Run) → r ≡ run 0 [] → Whole parts len ≡ grow parts len (size_of r)
+pub grow_run : (parts len : ℕ) (r : rfc.Run) → r ≡ run 0 [] → Some (record { parts = parts; len = len }) ≡ grow parts len (size_of r)
 grow_run parts len r e =
     let a : parts ≡ parts + 0 = omega arith in
     let b : len ≡ len + 0 = omega arith in
-    (λ i. Whole (a i) (b i)) ∙ ap (λ (q : rfc.Run). grow parts len (size_of q)) (sym e)
+    (λ i. Some (record { parts = a i; len = b i })) ∙ ap (λ (q : rfc.Run). grow parts len (size_of q)) (sym e)
 
-pub grow_cut : (parts len : ℕ) (r : rfc.Run) → r ≡ cut → Cut ≡ grow parts len (size_of r)
+pub grow_cut : (parts len : ℕ) (r : rfc.Run) → r ≡ cut → None ≡ grow parts len (size_of r)
 grow_cut parts len r e = ap (λ (q : rfc.Run). grow parts len (size_of q)) (sym e)
 
 -- a turn of a scan
@@ -74,3 +79,6 @@ scan_empty area i code parts len e z h =
     let a : len + get_or area (i + 1) 0 ≡ len = omega (arith, z) in
     let b : i + 2 + get_or area (i + 1) 0 ≡ i + 2 = omega (arith, z) in
     scan_turn area i code parts len e (omega (arith, z)) ∙ (λ j. grow (parts + 1) (a j) (size_of (further code (drop (b j) area))))
+
+-- the returns and the turns of a scan
+pub ruleset scanning = (further_none_at, further_other_at, further_no_length_at, further_no_value_at, grow_run, grow_cut, scan_turn, scan_empty)

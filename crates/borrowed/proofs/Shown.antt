@@ -6,7 +6,8 @@ use native.Mathlib.Omega.{arith}
 use native.Mathlib.Decide.{dec_le}
 use mathlib.Core.List.{List, []}
 use lib.ListN.{length, take, drop, length-drop}
-use lib.Seq.{length-take-le}
+use lib.Seq.{length-take-le, take-length}
+use Rattle.std.specs.Prelude.{slice_range}
 use borrow.Author.Tests.{le-leb, lt-leb}
 use Rattle.borrowed.specs.Walked.{part_of, shown}
 
@@ -15,9 +16,13 @@ module _ (bytes : List ℕ) (start len : ℕ) where
   unfolding part_of
   part_there h = rw (le-leb (start + len) (length bytes) h)
 
-  -- by its two ends
-  pub part_between : start + len ≤ length bytes → take (start + len - start) (drop start bytes) ≡ part_of bytes start len
-  part_between h = let n : start + len - start ≡ len = omega arith in rw n (sym (part_there h))
+  -- as the front of what stands from `start` on
+  pub part_front : {rest : List ℕ} → start ≤ length bytes → rest ≡ slice_range bytes start (length bytes) → len ≤ length rest
+      → take len rest ≡ part_of bytes start len
+  part_front {rest} h e g =
+      let l : length (drop start bytes) ≡ length bytes - start = length-drop start bytes in
+      let is : rest ≡ drop start bytes = e ∙ ap (λ (n : ℕ). take n (drop start bytes)) (sym l) ∙ take-length (drop start bytes) in
+      ap (take len) is ∙ sym (part_there (omega (arith, l, ap length is)))
 
   pub part_none : length bytes < start + len → part_of bytes start len ≡ []
   unfolding part_of

@@ -1,17 +1,19 @@
 -- What the contracts of the walk say, over the definitions of `Rattle.rfc.specs.Walk`.
 -- Assumes nothing.
 use Rattle.std.specs.Prelude.{ℕ, ◌+◌, ◌-◌, ◌*◌, ◌≤◌, ◌<◌, ◌≡◌, List, [], cond, length, take, drop, get_or, leb}
+use Rattle.std.specs.Prelude.{Option, Some, None, Result, Ok, Err}
 use Rattle.rfc.specs.Numbers.{Answer, given, refused, needs, pad_code, end_code, most_bytes}
 use Rattle.rfc.specs.Walk as rfc
 use Rattle.rfc.specs.Walk.{stop, option, run, cut, further, walk, join_after}
+use Rattle.refusal.specs.Told as refusal
+use Rattle.refusal.specs.declared.Refusal.{Refusal}
 use Rattle.borrowed.specs.declared.answer.Stop.{Stop}
 use Rattle.borrowed.specs.declared.answer.Stop.TheVariants.{Out, End, CutLength, CutValue, CutContinuation}
 use Rattle.borrowed.specs.declared.answer.Step.{Step}
-use Rattle.borrowed.specs.declared.answer.Step.TheVariants.{Stopped, Found, Refused, Needs}
+use Rattle.borrowed.specs.declared.answer.Step.TheVariants.{Stopped, Found}
 use Rattle.borrowed.specs.declared.Begun.{Begun}
 use Rattle.borrowed.specs.declared.Begun.TheVariants as begun
 use Rattle.borrowed.specs.declared.parts.Run.{Run}
-use Rattle.borrowed.specs.declared.parts.Run.TheVariants.{Cut, Whole}
 
 -- each stop's name in the definitions
 abbrev pub stop_of : Stop → rfc.Stop
@@ -30,11 +32,15 @@ stop_back rfc.cut_value = CutValue
 stop_back rfc.cut_continuation = CutContinuation
 
 -- what is found, by its numbers
-abbrev pub sizes : Answer rfc.Found → Step
-sizes (given (stop s at)) = Stopped (stop_back s) at
-sizes (given (option code v n at)) = Found code n (length v) at
-sizes (refused k) = Refused k
-sizes (needs n) = Needs n
+abbrev pub sized : rfc.Found → Step
+sized (stop s at) = Stopped (stop_back s) at
+sized (option code v n at) = Found (record { code = code; parts = n; len = length v; place = at })
+
+-- what a call answers, by its numbers
+abbrev pub sizes : Answer rfc.Found → Answer Step
+sizes (given f) = given (sized f)
+sizes (refused k) = refused k
+sizes (needs n) = needs n
 
 -- the len bytes from `start` on, or none where they are not all there
 unfoldable pub part_of : List ℕ → ℕ → ℕ → List ℕ
@@ -44,36 +50,37 @@ part_of bytes start len = cond (leb (start + len) (length bytes)) (take len (dro
 unfoldable pub shown : ℕ → ℕ → ℕ → List ℕ → List ℕ → List ℕ
 shown parts len place area join = cond (leb parts 1) (cond (leb len place) (part_of area (place - len) len) []) (part_of join 0 len)
 
--- what each case of a step says, with the area and what the join buffer then holds: the document's number and values
-abbrev pub says : Step → List ℕ → List ℕ → Answer rfc.Found
-says (Stopped s at) area join = given (stop (stop_of s) at)
-says (Found code parts len place) area join = given (option code (shown parts len place area join) parts place)
-says (Refused number) area join = refused number
-says (Needs len) area join = needs len
+-- what each case of a step shows, with the area and what the join buffer then holds: the document's values
+abbrev pub shows : Step → List ℕ → List ℕ → rfc.Found
+shows (Stopped s at) area join = stop (stop_of s) at
+shows (Found f) area join = option f.code (shown f.parts f.len f.place area join) f.parts f.place
+
+-- and what an answer says: what was found, or the document's number
+abbrev pub says : Result Step Refusal → List ℕ → List ℕ → Answer rfc.Found
+says (Ok s) area join = given (shows s area join)
+says (Err e) area join = refusal.says e
 
 -- the bytes that an option shows are there: with one part before its place, with more in the join buffer
-abbrev pub Inside : Step → List ℕ → List ℕ → Type 0
-Inside (Stopped s at) area join = Unit {0}
-Inside (Found code parts len place) area join = (parts ≤ 1 → len ≤ place) × (place ≤ length area) × (1 < parts → len ≤ length join)
-Inside (Refused number) area join = Unit {0}
-Inside (Needs len) area join = Unit {0}
+abbrev pub Inside : Result Step Refusal → List ℕ → List ℕ → Type 0
+Inside (Ok (Stopped s at)) area join = Unit {0}
+Inside (Ok (Found f)) area join = (f.parts ≤ 1 → f.len ≤ f.place) × (f.place ≤ length area) × (1 < f.parts → f.len ≤ length join)
+Inside (Err e) area join = Unit {0}
 
 -- a call, from a join buffer to a join buffer, answers r, which says what the definition answers
-pub record Walked (area join join' : List ℕ) (r : Step) (answer : Answer rfc.Found) : Type 0 where
+pub record Walked (area join join' : List ℕ) (r : Result Step Refusal) (answer : Answer rfc.Found) : Type 0 where
   pub told : says r area join' ≡ answer
   pub inside : Inside r area join'
   pub kept : join' ≡ join_after answer join
 
 -- one call at a place
-abbrev pub Stepped : List ℕ → ℕ → List ℕ → List ℕ → Step → Type 0
+abbrev pub Stepped : List ℕ → ℕ → List ℕ → List ℕ → Result Step Refusal → Type 0
 Stepped area place join join' r = Walked area join join' r (rfc.step area place (length join))
 
 -- where the walk goes on after a step from a place
-abbrev pub place_of : Step → ℕ → ℕ
-place_of (Stopped s at) place = at
-place_of (Found code parts len at) place = at
-place_of (Refused number) place = place
-place_of (Needs len) place = place
+abbrev pub place_of : Result Step Refusal → ℕ → ℕ
+place_of (Ok (Stopped s at)) place = at
+place_of (Ok (Found f)) place = f.place
+place_of (Err e) place = place
 
 -- Between the functions of the crate: r is behind the Pads from `place` on
 pub record Skipped (area : List ℕ) (place r : ℕ) : Type 0 where
@@ -105,17 +112,21 @@ pub record Continues (area : List ℕ) (at : ℕ) : Type 0 where
   pub inside : behind area at < length area
   pub same : get_or area (behind area at) 0 ≡ get_or area at 0
 
--- how a call begins that finds this: with what it finds, or at an option of several parts, where a call would find the same
-abbrev pub Begins : Begun → List ℕ → Answer rfc.Found → Type 0
-Begins (begun.Refused number) area found = Refused number ≡ sizes found
-Begins (begun.Stopped s at) area found = Stopped s at ≡ sizes found
-Begins (begun.Alone code len at) area found = Found code 1 len at ≡ sizes found
-Begins (begun.Several at) area found = Continues area at × (found ≡ rfc.look area at)
+-- a step that found an option of one part, or none
+abbrev pub OnePart : Step → Type 0
+OnePart (Stopped s at) = Unit {0}
+OnePart (Found f) = f.parts ≡ 1
+
+-- how a call begins that answers this: with its answer, or at an option of several parts, where a call would answer the same
+abbrev pub Begins : Result Begun Refusal → List ℕ → Answer rfc.Found → Type 0
+Begins (Ok (begun.Done s)) area answer = (given s ≡ sizes answer) × OnePart s
+Begins (Ok (begun.Several at)) area answer = Continues area at × (answer ≡ rfc.look area at)
+Begins (Err e) area answer = refusal.says e ≡ sizes answer
 
 -- a run by its numbers
-abbrev pub size_of : rfc.Run → Run
-size_of cut = Cut
-size_of (run n vs) = Whole n (length vs)
+abbrev pub size_of : rfc.Run → Option Run
+size_of cut = None
+size_of (run n vs) = Some (record { parts = n; len = length vs })
 
 -- the joined values of a run
 abbrev pub values : rfc.Run → List ℕ

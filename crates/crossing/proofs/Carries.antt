@@ -7,31 +7,31 @@ use Rattle.rfc.specs.Numbers.{Answer}
 use Rattle.rfc.specs.Walk as walk
 use Rattle.rfc.specs.Values as rfc
 use Rattle.rfc.specs.Writing.{Write}
-use Rattle.encoder.specs.Written as encoder
-use Rattle.encoder.specs.declared.Written as write
+use Rattle.std.specs.Prelude.{Result, Ok, Err}
+use Rattle.refusal.specs.declared.Refusal.{Refusal}
+use Rattle.refusal.proofs.Told.{says_as}
 use Rattle.borrowed.specs.Walked as walked
 use Rattle.borrowed.specs.declared.answer.Step as call
-use Rattle.borrowed.specs.declared.answer.Step.TheVariants.{Stopped, Found, Refused, Needs}
+use Rattle.borrowed.specs.declared.answer.Step.TheVariants.{Stopped, Found}
 use Rattle.borrowed.proofs.Shown.{length_shown}
 use Rattle.values.specs.Reading.{says, count_of, ReadAs}
 use Rattle.values.specs.declared.answer.Value as held
 use Rattle.values.specs.declared.answer.Value.TheVariants as case
-use Rattle.values.specs.declared.answer.Reading.{Reading}
-use Rattle.values.specs.declared.answer.Reading.TheVariants as reading
-use Rattle.crossing.specs.Carried.{step_of, step_here, Steps, holding, value_of, reading_here, written_of, Wrote, WroteValue}
+use Rattle.crossing.specs.Carried.{step_of, step_here, Steps, holding, value_of, reading_here, Wrote}
 use Rattle.crossing.specs.declared.answers.Step.{Step}
 use Rattle.crossing.specs.declared.answers.Written.{Written}
 
 -- a step, whose value has the length that was said
-step_said : (place : ℕ) (r : call.Step) (area join : List ℕ) → walked.Inside r area join
+step_said : (place : ℕ) (r : Result call.Step Refusal) (area join : List ℕ) → walked.Inside r area join
     → step_here place r ≡ step_of place (walked.says r area join)
-step_said place (Stopped s at) area join i = refl
-step_said place (Found code parts len at) area join i =
-    rw (length_shown parts len at area join i.0 i.1 i.2)
-step_said place (Refused number) area join i = refl
-step_said place (Needs len) area join i = refl
+step_said place (Ok (Stopped s at)) area join i = refl
+step_said place (Ok (Found f)) area join i = rw (length_shown f.parts f.len f.place area join i.0 i.1 i.2)
+step_said place (Err e) area join i =
+    says_as
+    (λ (a b : Answer walk.Found) k len. record { refused = k; stop = 0; code = 0; parts = 0; len = len; place = place } ≡ step_of place a)
+    (λ k. refl) (λ len. refl) e
 
-pub step_crosses : {area join join' : List ℕ} {place : ℕ} {r : call.Step} {s : Step} {answer : Answer walk.Found}
+pub step_crosses : {area join join' : List ℕ} {place : ℕ} {r : Result call.Step Refusal} {s : Step} {answer : Answer walk.Found}
     → walked.Walked area join join' r answer → s ≡ step_here place r → Steps place join join' s answer
 step_crosses {area = area} {join' = join'} {place = place} {r = r} w e =
     record { told = e ∙ step_said place r area join' w.inside ∙ ap (step_of place) w.told; kept = w.kept }
@@ -55,19 +55,12 @@ bytes_stay count (case.MessageType n) v = refl
 bytes_stay count (case.ThreeBytes a b c) v = refl
 bytes_stay count case.Flag v = refl
 
-pub reading_crosses : (v : List ℕ) (a : Answer rfc.Value) (r : Reading) → ReadAs v a r → reading_here r ≡ value_of a
-reading_crosses v a (reading.Is r) t =
+pub reading_crosses : (v : List ℕ) (a : Answer rfc.Value) (r : Result held.Value Refusal) → ReadAs v a r → reading_here r ≡ value_of a
+reading_crosses v a (Ok r) t =
     bytes_stay (count_of r) r v ∙ ap (λ (n : ℕ). holding n (says r v)) t.exact.counted ∙ ap value_of t.told
-reading_crosses v a (reading.Refused number) t = ap value_of t
-
-pub wrote_crosses : {w : Write} {room room' : List ℕ} {place : ℕ} {r : write.Written} {s : Written}
-    → encoder.Wrote w room room' place r → s ≡ written_of place (encoder.says r) → Wrote w room room' place s
-wrote_crosses {place = place} w e = record { told = e ∙ ap (written_of place) w.told; left = w.left }
-
--- the same value by another name
-pub same_content : (kind code : ℕ) {x y : rfc.Content} {room room' : List ℕ} {place : ℕ} {s : Written} → x ≡ y
-    → WroteValue kind x code room room' place s → WroteValue kind y code room room' place s
-same_content kind code e w = rw (← e) w
+reading_crosses v a (Err e) t =
+    says_as (λ (x y : Answer rfc.Value) k len. record { refused = k; kind = 0; number = 0; count = 0 } ≡ value_of x) (λ k. refl) (λ len. refl) e
+    ∙ ap value_of t
 
 -- two answers to one write, and what they leave
 pub wrote_one : {w : Write} {room r₁ r₂ : List ℕ} {place : ℕ} {a b : Written}

@@ -1,19 +1,20 @@
 -- How the answers of the definitions cross the boundary: a struct of plain numbers for each.
 -- Assumes nothing.
-use Rattle.std.specs.Prelude.{ℕ, ◌≡◌, cond, List, [], eqb, length, get_or}
+use Rattle.std.specs.Prelude.{ℕ, ◌≡◌, cond, List, [], eqb, length, get_or, Result, Ok, Err}
 use Rattle.facts.specs.BigEndian.{number, unsigned}
 use Rattle.rfc.specs.Numbers.{Answer, given, refused, needs}
 use Rattle.rfc.specs.Walk as walk
 use Rattle.rfc.specs.Values as values
 use Rattle.rfc.specs.Writing.{Write, answer_to, room_after}
 use Rattle.rfc.specs.Typed.{write_value}
+use Rattle.refusal.specs.declared.Refusal.{Refusal}
+use Rattle.refusal.specs.Told.{number_of, needed_of}
 use Rattle.borrowed.specs.Walked.{stop_of}
+use Rattle.borrowed.specs.declared.answer.Found.{Found}
 use Rattle.borrowed.specs.declared.answer.Step as call
-use Rattle.borrowed.specs.declared.answer.Step.TheVariants.{Stopped, Found, Refused, Needs}
+use Rattle.borrowed.specs.declared.answer.Step.TheVariants as calls
 use Rattle.values.specs.Reading.{says, count_of}
 use Rattle.values.specs.declared.answer.Value as held
-use Rattle.values.specs.declared.answer.Reading.{Reading}
-use Rattle.values.specs.declared.answer.Reading.TheVariants as reading
 use Rattle.crossing.specs.declared.answers.Field.{Field}
 use Rattle.crossing.specs.declared.answers.Step.{Step}
 use Rattle.crossing.specs.declared.answers.Value.{Value}
@@ -91,18 +92,21 @@ abbrev pub WroteValue : ℕ → values.Content → ℕ → List ℕ → List ℕ
 WroteValue kind content code room room' place r =
     Wrote (write_value code (record { kind = kind; content = content }) room place) room room' place r
 
--- Between the functions of the crate: the same of the answers of the library. A call of the walk from a place
-abbrev pub step_here : ℕ → call.Step → Step
-step_here place (Stopped s at) = record { refused = 0; stop = stop_number (stop_of s); code = 0; parts = 0; len = 0; place = at }
-step_here place (Found code parts len at) = record { refused = 0; stop = 0; code = code; parts = parts; len = len; place = at }
-step_here place (Refused k) = record { refused = k; stop = 0; code = 0; parts = 0; len = 0; place = place }
-step_here place (Needs len) = record { refused = 5; stop = 0; code = 0; parts = 0; len = len; place = place }
+-- Between the functions of the crate: the same of the answers of the library. An option
+abbrev pub option_here : Found → Step
+option_here f = record { refused = 0; stop = 0; code = f.code; parts = f.parts; len = f.len; place = f.place }
+
+-- a call of the walk from a place
+abbrev pub step_here : ℕ → Result call.Step Refusal → Step
+step_here place (Ok (calls.Stopped s at)) = record { refused = 0; stop = stop_number (stop_of s); code = 0; parts = 0; len = 0; place = at }
+step_here place (Ok (calls.Found f)) = option_here f
+step_here place (Err e) = record { refused = number_of e; stop = 0; code = 0; parts = 0; len = needed_of e; place = place }
 
 -- what a value holds. (No number that crosses is made of bytes that stay where they are)
 abbrev pub held_here : held.Value → Value
 held_here r = holding (count_of r) (says r [])
 
 -- what a value reads as
-abbrev pub reading_here : Reading → Value
-reading_here (reading.Is r) = held_here r
-reading_here (reading.Refused k) = record { refused = k; kind = 0; number = 0; count = 0 }
+abbrev pub reading_here : Result held.Value Refusal → Value
+reading_here (Ok r) = held_here r
+reading_here (Err e) = record { refused = number_of e; kind = 0; number = 0; count = 0 }

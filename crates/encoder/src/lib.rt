@@ -42,7 +42,7 @@ impl Number for u16 {
     ghost laws = { laws_of 1 };
 
     fn put(self, room: &mut [u8], at: usize) {
-        put_bytes(room, at, &u16_bytes(self));
+        put_bytes(room, at, &self.to_be_bytes());
     }
 }
 
@@ -58,7 +58,7 @@ impl Number for u32 {
     ghost laws = { laws_of 3 };
 
     fn put(self, room: &mut [u8], at: usize) {
-        put_bytes(room, at, &u32_bytes(self));
+        put_bytes(room, at, &self.to_be_bytes());
     }
 }
 
@@ -102,36 +102,28 @@ pub fn write_numbers<N: Number>(
 pub fn u16_bytes(number: u16) -> [u8; 2]
     ensures { result ≡ digits 2 number }
 {
-    [(number / 256 % 256) as u8, (number % 256) as u8]
+    number.to_be_bytes()
 }
 
 // The four bytes of a number, the highest first.
 pub fn u32_bytes(number: u32) -> [u8; 4]
     ensures { result ≡ digits 4 number }
 {
-    [
-        (number / 16777216 % 256) as u8,
-        (number / 65536 % 256) as u8,
-        (number / 256 % 256) as u8,
-        (number % 256) as u8,
-    ]
+    number.to_be_bytes()
 }
 
 // The four bytes of a number in two's complement, the highest first.
 pub fn i32_bytes(number: i32) -> [u8; 4]
     ensures { result ≡ digits 4 (unsigned number) }
 {
-    u32_bytes(bits_of(number))
+    number.to_be_bytes()
 }
 
 // The 32 bits that stand for a number in two's complement.
 pub fn bits_of(number: i32) -> u32
     ensures { result ≡ unsigned number }
 {
-    if number < 0 {
-        return !((!number) as u32);
-    }
-    number as u32
+    number.cast_unsigned()
 }
 
 // Copies all of `from` into `to` at `place`: from 16 bytes on in blocks of 16, from 8 on in two of 8, from 4 on in two of 4, and fewer

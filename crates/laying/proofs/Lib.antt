@@ -1,5 +1,5 @@
+pub mod Measured
 pub mod Passes
 pub mod Puts
-pub mod Rows
 pub mod Together
 pub mod Unique

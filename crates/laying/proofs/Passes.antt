@@ -1,28 +1,43 @@
 -- The laws of `specs/Passes.antt`, check by check: one for each return of the functions that do a pass.
 -- Assumes nothing.
-use mathlib.Core.Path.{◌≡◌, refl}
+use mathlib.Core.Path.{◌≡◌, refl, sym, ap, ◌∙◌}
 use Prim.Native.Nat.{ℕ, ◌+◌, ◌≤◌, ◌<◌, min}
-use mathlib.Core.Bool.{Bool, true, false, cond}
-use mathlib.Core.List.{List, foldl}
-use native.Mathlib.Omega.{arith}
-use native.Mathlib.Decide.{dec_le}
-use lib.Dec.{ltb}
+use mathlib.Core.Bool.{true, false}
+use mathlib.Core.List.{List}
 use lib.ListN.{length, set}
+use Rattle.std.proofs.Common.{◌⊎◌, inl, inr, true≢false}
 use borrow.Author.Tests.{le-ltb, lt-ltb, eq-eqb, ne_eqb, le-leb, lt-leb}
-use Rattle.rfc.specs.Numbers.{given, refused, most_bytes, most_value}
+use Rattle.std.specs.Prelude.{Option, Some, None, is_some, Result, Ok, Err}
+use Rattle.rfc.specs.Numbers.{most_bytes, most_value, first_refusal}
 use Rattle.rfc.specs.Writing.{size_in_parts}
 use Rattle.rfc.specs.Strung.{RowMade}
-use Rattle.laying.specs.Passes.{State, first, refuse, with_len, second, headed, onward}
-use Rattle.laying.specs.Passes.{begun, measured, gauged, turned, opened, added, put, passed, answered}
+use Rattle.refusal.specs.declared.Refusal.{Refusal}
+use Rattle.refusal.specs.declared.Refusal.TheVariants.{TooLong, PastEnd, ValueTooLong, NoRoom}
+use Rattle.refusal.specs.Told.{refusal_of}
+use Rattle.laying.specs.Passes.{first, refuse, with_len, headed, onward}
+use Rattle.laying.specs.Passes.{begun, measured, row_of, turned, opened, added, outcome, answered}
 use Rattle.laying.specs.declared.Pass.{Pass}
+
+-- a pass has refused, or it has not
+abbrev pub Refused : Pass → Type 0
+Refused p = is_some p.refusal ≡ true
+
+abbrev pub Going : Pass → Type 0
+Going p = is_some p.refusal ≡ false
+
+pub either_way : (p : Pass) → Refused p ⊎ Going p
+either_way p = elim p.refusal as (λ r. (is_some r ≡ true) ⊎ (is_some r ≡ false)) [ Some e ↦ inl refl | None ↦ inr refl ]
+
+pub not_both : (p : Pass) → Refused p → Going p → ⊥
+not_both p h g = true≢false (sym h ∙ g)
 
 -- before the first pass
 module _ (n place code most : ℕ) where
-  pub begun_2 : most_bytes < n → begun n place code most ≡ refuse 2 (first place code most)
+  pub begun_2 : most_bytes < n → begun n place code most ≡ refuse TooLong (first place code most)
   unfolding begun
   begun_2 h = rw (lt-ltb most_bytes n h)
 
-  pub begun_4 : n ≤ most_bytes → n < place → begun n place code most ≡ refuse 4 (first place code most)
+  pub begun_4 : n ≤ most_bytes → n < place → begun n place code most ≡ refuse PastEnd (first place code most)
   unfolding begun
   begun_4 h g = rw (le-ltb most_bytes n h, lt-ltb n place g)
 
@@ -31,64 +46,60 @@ module _ (n place code most : ℕ) where
   begun_first h g = rw (le-ltb most_bytes n h, le-ltb n place g)
 
 -- a row is measured
-module _ (p : Pass) (number n : ℕ) where
-  pub measured_refused : 0 < p.refusal → measured p number n ≡ p
+module _ (p : Pass) where
+  pub measured_refused : (row : Result ℕ Refusal) → Refused p → measured p row ≡ p
   unfolding measured
-  measured_refused h = rw (lt-ltb 0 p.refusal h)
+  measured_refused (Ok n) h = rw h
+  measured_refused (Err e) h = rw h
 
-  pub measured_keeps : (measured p number n).writing ≡ p.writing
-  unfolding measured
-  measured_keeps = go (ltb 0 p.refusal) (ltb 0 number) (ltb most_value p.len)
-    where
-      go : (a b c : Bool) → (cond a p (cond b (refuse number p) (cond c p (with_len (p.len + n) p)))).writing ≡ p.writing
-      go true b c = refl
-      go false true c = refl
-      go false false true = refl
-      go false false false = refl
-
-  module _ (h : p.refusal ≤ 0) where
-    pub measured_bad : 0 < number → measured p number n ≡ refuse number p
+  module _ (h : Going p) where
+    pub measured_bad : (e : Refusal) → measured p (Err e) ≡ refuse e p
     unfolding measured
-    measured_bad g = rw (le-ltb 0 p.refusal h, lt-ltb 0 number g)
+    measured_bad e = rw h
 
-    pub measured_full : number ≤ 0 → most_value < p.len → measured p number n ≡ p
+    pub measured_full : (n : ℕ) → most_value < p.len → measured p (Ok n) ≡ p
     unfolding measured
-    measured_full g f = rw (le-ltb 0 p.refusal h, le-ltb 0 number g, lt-ltb most_value p.len f)
+    measured_full n f = rw (h, lt-ltb most_value p.len f)
 
-    pub measured_more : number ≤ 0 → p.len ≤ most_value → measured p number n ≡ with_len (p.len + n) p
+    pub measured_more : (n : ℕ) → p.len ≤ most_value → measured p (Ok n) ≡ with_len (p.len + n) p
     unfolding measured
-    measured_more g f = rw (le-ltb 0 p.refusal h, le-ltb 0 number g, le-ltb most_value p.len f)
-
--- the bytes of a row that is refused are not counted
-pub measured_same : (p : Pass) (number n m : ℕ) → 0 < number → measured p number n ≡ measured p number m
-unfolding measured
-measured_same p number n m h = rw (lt-ltb 0 number h)
+    measured_more n f = rw (h, le-ltb most_value p.len f)
 
 -- after a row that is refused there is a refusal
-pub measured_stops : (p : Pass) (number n : ℕ) → 0 < number → 0 < (measured p number n).refusal
-measured_stops p number n h = go (dec_le p.refusal 0)
-  where
-    go : Dec (p.refusal ≤ 0) → 0 < (measured p number n).refusal
-    go (yes none) = rw (measured_bad p number n none h) h
-    go (no some) = rw (measured_refused p number n (omega arith)) (omega arith)
+pub measured_stops : (p : Pass) (e : Refusal) → Refused (measured p (Err e))
+measured_stops p e =
+    elim (either_way p) [
+      | inl h ↦ ap (λ (q : Pass). is_some q.refusal) (measured_refused p (Err e) h) ∙ h
+      | inr g ↦ ap (λ (q : Pass). is_some q.refusal) (measured_bad p g e)
+    ]
+
+-- what a row gives
+pub row_bad : (m : RowMade) (k : ℕ) → first_refusal m.checks ≡ k → 0 < k → row_of m ≡ Err (refusal_of k)
+unfolding row_of
+row_bad m k e h = rw (e, lt-ltb 0 k h)
+
+pub row_good : (m : RowMade) (n : ℕ) → first_refusal m.checks ≤ 0 → n ≡ length m.bytes → row_of m ≡ Ok n
+unfolding row_of
+row_good m n h e = rw (le-ltb 0 (first_refusal m.checks) h) (ap Ok (sym e))
 
 -- between the passes
 module _ (p : Pass) (n : ℕ) where
-  pub turned_refused : 0 < p.refusal → turned p n ≡ p
+  pub turned_refused : Refused p → turned p n ≡ p
   unfolding turned
-  turned_refused h = rw (lt-ltb 0 p.refusal h)
+  turned_refused h = rw h
 
-  pub turned_7 : p.refusal ≤ 0 → most_value < p.len → turned p n ≡ refuse 7 p
-  unfolding turned
-  turned_7 h g = rw (le-ltb 0 p.refusal h, lt-ltb most_value p.len g)
+  module _ (h : Going p) where
+    pub turned_7 : most_value < p.len → turned p n ≡ refuse ValueTooLong p
+    unfolding turned
+    turned_7 g = rw (h, lt-ltb most_value p.len g)
 
-  pub turned_8 : p.refusal ≤ 0 → p.len ≤ most_value → n < p.at + size_in_parts p.most p.len → turned p n ≡ refuse 8 p
-  unfolding turned
-  turned_8 h g f = rw (le-ltb 0 p.refusal h, le-ltb most_value p.len g, lt-ltb n (p.at + size_in_parts p.most p.len) f)
+    pub turned_8 : p.len ≤ most_value → n < p.at + size_in_parts p.most p.len → turned p n ≡ refuse NoRoom p
+    unfolding turned
+    turned_8 g f = rw (h, le-ltb most_value p.len g, lt-ltb n (p.at + size_in_parts p.most p.len) f)
 
-  pub turned_second : p.refusal ≤ 0 → p.len ≤ most_value → p.at + size_in_parts p.most p.len ≤ n → turned p n ≡ second p
-  unfolding turned
-  turned_second h g f = rw (le-ltb 0 p.refusal h, le-ltb most_value p.len g, le-ltb n (p.at + size_in_parts p.most p.len) f)
+    pub turned_over : p.len ≤ most_value → p.at + size_in_parts p.most p.len ≤ n → turned p n ≡ p
+    unfolding turned
+    turned_over g f = rw (h, le-ltb most_value p.len g, le-ltb n (p.at + size_in_parts p.most p.len) f)
 
 -- the head of a part, and a byte of it
 module _ (p : Pass) (room : List ℕ) where
@@ -118,25 +129,13 @@ module _ (p : Pass) (room : List ℕ) where
     unfolding added
     added_byte h g = rw (ne_eqb p.part 0 h, lt-leb (length room) p.at g)
 
--- one row
-module _ (d : State) (m : RowMade) where
-  pub passed_refused : 0 < d.0.refusal → passed d m ≡ d
-  unfolding passed
-  passed_refused h = rw (lt-ltb 0 d.0.refusal h)
+-- what is answered
+pub answered_refused : (p : Pass) (e : Refusal) → p.refusal ≡ Some e → answered p ≡ Err e
+answered_refused p e h = rw h
 
-  pub passed_writing : d.0.refusal ≤ 0 → d.0.writing ≡ true → passed d m ≡ foldl put d m.bytes
-  unfolding passed
-  passed_writing h e = rw (le-ltb 0 d.0.refusal h, e)
-
-  pub passed_measuring : d.0.refusal ≤ 0 → d.0.writing ≡ false → passed d m ≡ (gauged d.0 m, d.1)
-  unfolding passed
-  passed_measuring h e = rw (le-ltb 0 d.0.refusal h, e)
-
--- after both passes
-pub answered_refused : (p : Pass) → 0 < p.refusal → answered p ≡ refused p.refusal
-unfolding answered
-answered_refused p h = rw (lt-ltb 0 p.refusal h)
-
-pub answered_given : (p : Pass) → p.refusal ≤ 0 → answered p ≡ given p.at
-unfolding answered
-answered_given p h = rw (le-ltb 0 p.refusal h)
+pub answered_given : (p : Pass) → Going p → answered p ≡ Ok p.at
+answered_given p h = go p.refusal h
+  where
+    go : (r : Option Refusal) → is_some r ≡ false → outcome r p.at ≡ Ok p.at
+    go None g = refl
+    go (Some e) g = absurd (true≢false g)

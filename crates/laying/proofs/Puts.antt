@@ -113,13 +113,13 @@ puts_value v d size none all fits =
     let r : rest d.0 d.0.part v ≡ encode d.0.most d.0.code v = ap (λ (n : ℕ). rest d.0 n v) none in
     rw r at (puts_rest v d size (omega arith) (omega (arith, ap length r)))
 
--- a byte that is put changes neither the refusal nor whether the pass writes
+-- a byte that is put does not change the refusal
 either : {A : Type 0} (P : A → Type 0) (b : Bool) (x y : A) → P x → P y → P (cond b x y)
 either P true x y p q = p
 either P false x y p q = q
 
 abbrev Keeps : State → State → Type 0
-Keeps d e = (e.0.refusal ≡ d.0.refusal) × (e.0.writing ≡ d.0.writing)
+Keeps d e = e.0.refusal ≡ d.0.refusal
 
 opened_keeps : (d : State) → Keeps d (opened d)
 unfolding opened
@@ -128,7 +128,7 @@ opened_keeps d =
     let n = min p.most p.len in
     let e : State = (headed n p, set (set d.1 p.at p.code) (p.at + 1) n) in
     let full : Bool = ltb (length d.1) (p.at + 2) in
-    either (Keeps d) (ltb 0 p.part) d (cond full d e) (refl, refl) (either (Keeps d) full d e (refl, refl) (refl, refl))
+    either (Keeps d) (ltb 0 p.part) d (cond full d e) refl (either (Keeps d) full d e refl refl)
 
 added_keeps : (d : State) (byte : ℕ) → Keeps d (added d byte)
 unfolding added
@@ -136,12 +136,8 @@ added_keeps d byte =
     let p = d.0 in
     let e : State = (onward p, set d.1 p.at byte) in
     let full : Bool = leb (length d.1) p.at in
-    either (Keeps d) (eqb p.part 0) d (cond full d e) (refl, refl) (either (Keeps d) full d e (refl, refl) (refl, refl))
+    either (Keeps d) (eqb p.part 0) d (cond full d e) refl (either (Keeps d) full d e refl refl)
 
-pub puts_keep : (v : List ℕ) (d : State) → ((foldl put d v).0.refusal ≡ d.0.refusal) × ((foldl put d v).0.writing ≡ d.0.writing)
-puts_keep [] d = (refl, refl)
-puts_keep (byte ∷ v) d =
-    let o = opened_keeps d in
-    let a = added_keeps (opened d) byte in
-    let r = puts_keep v (put d byte) in
-    (r.0 ∙ a.0 ∙ o.0, r.1 ∙ a.1 ∙ o.1)
+pub puts_keep : (v : List ℕ) (d : State) → Keeps d (foldl put d v)
+puts_keep [] d = refl
+puts_keep (byte ∷ v) d = puts_keep v (put d byte) ∙ added_keeps (opened d) byte ∙ opened_keeps d

@@ -1,11 +1,14 @@
--- Two passes over the rows of a value: the first measures it, the second writes it byte by byte. What each does to its state and to the
--- room.
+-- Two passes over the rows of a value: the first measures it, the second puts it byte by byte. What each does to its state and to the room.
 -- Assumes nothing.
-use Rattle.std.specs.Prelude.{ℕ, ◌+◌, ◌-◌, min, true, false, cond, eqb, leb, ltb, length, set}
-use mathlib.Core.List.{List, foldl}
-use Rattle.rfc.specs.Numbers.{Answer, given, refused, most_bytes, most_value, first_refusal}
+use Rattle.std.specs.Prelude.{ℕ, ◌≡◌, ◌+◌, ◌-◌, min, cond, eqb, leb, ltb, length, set, Option, Some, None, is_some, Result, Ok, Err}
+use mathlib.Core.List.{List, [], ◌∷◌, foldl}
+use Rattle.facts.specs.Each.{Each}
+use Rattle.rfc.specs.Numbers.{refused, most_bytes, most_value, Check, check, first_refusal}
 use Rattle.rfc.specs.Writing.{size_in_parts}
-use Rattle.rfc.specs.Strung.{RowMade}
+use Rattle.rfc.specs.Strung.{RowMade, all_bytes}
+use Rattle.refusal.specs.declared.Refusal.{Refusal}
+use Rattle.refusal.specs.declared.Refusal.TheVariants.{TooLong, PastEnd, ValueTooLong, NoRoom}
+use Rattle.refusal.specs.Told.{refusal_of, says}
 use Rattle.laying.specs.declared.Pass.{Pass}
 
 -- the state of a pass, and what the room holds
@@ -14,53 +17,52 @@ State = Pass × List ℕ
 
 -- a pass that measures from the start
 abbrev pub first : ℕ → ℕ → ℕ → Pass
-first place code most = record { writing = false; refusal = 0; code = code; most = most; at = place; part = 0; len = 0 }
+first place code most = record { refusal = None; code = code; most = most; at = place; part = 0; len = 0 }
 
 -- a pass that has refused
-abbrev pub refuse : ℕ → Pass → Pass
-refuse number p =
-    record { writing = p.writing; refusal = number; code = p.code; most = p.most; at = p.at; part = p.part; len = p.len }
+abbrev pub refuse : Refusal → Pass → Pass
+refuse e p =
+    record { refusal = Some e; code = p.code; most = p.most; at = p.at; part = p.part; len = p.len }
 
 -- a pass that has measured so many bytes
 abbrev pub with_len : ℕ → Pass → Pass
 with_len n p =
-    record { writing = p.writing; refusal = p.refusal; code = p.code; most = p.most; at = p.at; part = p.part; len = n }
-
--- the pass that writes what was measured
-abbrev pub second : Pass → Pass
-second p =
-    record { writing = true; refusal = p.refusal; code = p.code; most = p.most; at = p.at; part = p.part; len = p.len }
+    record { refusal = p.refusal; code = p.code; most = p.most; at = p.at; part = p.part; len = n }
 
 -- a pass that has put the head of a part of n bytes
 abbrev pub headed : ℕ → Pass → Pass
 headed n p =
-    record { writing = p.writing; refusal = p.refusal; code = p.code; most = p.most; at = p.at + 2; part = n; len = p.len - n }
+    record { refusal = p.refusal; code = p.code; most = p.most; at = p.at + 2; part = n; len = p.len - n }
 
 -- a pass that has put a byte of a part
 abbrev pub onward : Pass → Pass
 onward p =
-    record { writing = p.writing; refusal = p.refusal; code = p.code; most = p.most; at = p.at + 1; part = p.part - 1; len = p.len }
+    record { refusal = p.refusal; code = p.code; most = p.most; at = p.at + 1; part = p.part - 1; len = p.len }
 
 -- before the first pass, into a room of n bytes: 2 and 4
 unfoldable pub begun : ℕ → ℕ → ℕ → ℕ → Pass
 begun n place code most =
     let p = first place code most in
-    cond (ltb most_bytes n) (refuse 2 p) (cond (ltb n place) (refuse 4 p) p)
+    cond (ltb most_bytes n) (refuse TooLong p) (cond (ltb n place) (refuse PastEnd p) p)
 
--- one row is measured, by the number that refuses it, 0 for none, and by how many bytes it has. After a refusal nothing is done, and from
--- more than the most bytes of a value on nothing is counted
-unfoldable pub measured : Pass → ℕ → ℕ → Pass
-measured p number n =
-    cond (ltb 0 p.refusal) p (cond (ltb 0 number) (refuse number p) (cond (ltb most_value p.len) p (with_len (p.len + n) p)))
+-- one row is measured, by why it is refused or by how many bytes it has. After a refusal nothing is done, and from more than the most bytes
+-- of a value on nothing is counted
+unfoldable pub measured : Pass → Result ℕ Refusal → Pass
+measured p (Err e) = cond (is_some p.refusal) p (refuse e p)
+measured p (Ok n) = cond (is_some p.refusal) p (cond (ltb most_value p.len) p (with_len (p.len + n) p))
+
+-- what a row gives to be measured: the refusal of its first check's number, or how many bytes it has
+unfoldable pub row_of : RowMade → Result ℕ Refusal
+row_of m = let number = first_refusal m.checks in cond (ltb 0 number) (Err (refusal_of number)) (Ok (length m.bytes))
 
 abbrev pub gauged : Pass → RowMade → Pass
-gauged p m = measured p (first_refusal m.checks) (length m.bytes)
+gauged p m = measured p (row_of m)
 
 -- between the passes, with a room of n bytes: 7 and 8
 unfoldable pub turned : Pass → ℕ → Pass
 turned p n =
-    cond (ltb 0 p.refusal) p
-    (cond (ltb most_value p.len) (refuse 7 p) (cond (ltb n (p.at + size_in_parts p.most p.len)) (refuse 8 p) (second p)))
+    cond (is_some p.refusal) p
+    (cond (ltb most_value p.len) (refuse ValueTooLong p) (cond (ltb n (p.at + size_in_parts p.most p.len)) (refuse NoRoom p) p))
 
 -- where no byte of a part is to come, the head of the next part is put, if it fits
 unfoldable pub opened : State → State
@@ -80,10 +82,25 @@ added d byte =
 abbrev pub put : State → ℕ → State
 put d byte = added (opened d) byte
 
--- what a pass does at one row: after a refusal nothing
-unfoldable pub passed : State → RowMade → State
-passed d m = cond (ltb 0 d.0.refusal) d (cond d.0.writing (foldl put d m.bytes) (gauged d.0 m, d.1))
+-- what is answered
+abbrev pub outcome : Option Refusal → ℕ → Result ℕ Refusal
+outcome (Some e) at = Err e
+outcome None at = Ok at
 
--- after both passes
-unfoldable pub answered : Pass → Answer ℕ
-answered p = cond (ltb 0 p.refusal) (refused p.refusal) (given p.at)
+abbrev pub answered : Pass → Result ℕ Refusal
+answered p = outcome p.refusal p.at
+
+-- both passes over rows, into a room
+unfoldable pub laid : Pass → List RowMade → List ℕ → Result ℕ Refusal × List ℕ
+laid p ms room =
+    let q = turned (foldl gauged p ms) (length room) in
+    let d : State = cond (is_some q.refusal) (q, room) (foldl put (q, room) (all_bytes ms)) in
+    (answered d.0, d.1)
+
+-- the checks of a row have numbers that a refusal has
+abbrev pub Known : List Check → Type 0
+Known [] = Unit {0}
+Known (check test number ∷ checks) = (says {A = ℕ} (refusal_of number) ≡ refused number) × Known checks
+
+abbrev pub EachKnown : List RowMade → Type 0
+EachKnown = Each (λ (m : RowMade). Known m.checks)

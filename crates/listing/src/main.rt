@@ -3,10 +3,9 @@
 // refused or too long means; of a message that is listed nothing is said there.
 #![tactic(auto)]
 
-use encoder::Written;
-use header::Number;
 use limits::LEAST_MESSAGE;
 use lines::MOST_LISTED;
+use refusal::Refusal;
 use std::io;
 use std::io::Read;
 use std::rt::Env;
@@ -45,13 +44,16 @@ fn is_joined(rt: &impl Env) -> bool {
 fn list(rt: &(impl Print + Eprint + Alloc), message: &[u8], joined: bool) -> io::Result<()> {
     let mut text = [0u8; 65535];
     match write(&mut text, message, joined) {
-        Written::To(len) => tell(rt, borrowed::part(&text, 0, len), message, joined),
+        Ok(len) => tell(rt, borrowed::part(&text, 0, len), message, joined),
         // This room takes every listing (`Room.ListingFits` and `Room.JoinedFits` of `calls`); a smaller one would be told here.
-        Written::Refused(number) => eprintln!(rt; "the listing is refused {number}"),
+        Err(refusal) => {
+            let number = refusal.number();
+            eprintln!(rt; "the listing is refused {number}")
+        }
     }
 }
 
-fn write(text: &mut [u8], message: &[u8], joined: bool) -> Written {
+fn write(text: &mut [u8], message: &[u8], joined: bool) -> Result<usize, Refusal> {
     if joined {
         return joined_lines::write_joined(text, 0, message);
     }
@@ -95,16 +97,11 @@ fn say_short(rt: &impl Eprint, size: usize) -> io::Result<()> {
 // Says what RFC 3396's reading refuses, where it does.
 fn say_refused(rt: &impl Eprint, message: &[u8]) -> io::Result<()> {
     match aggregate::fields::overload(message) {
-        Number::Is(_) => Ok(()),
-        Number::Refused(number) => {
-            if number == 15 {
-                eprintln!(rt; "refused 15: a field that holds options is cut")
-            } else {
-                eprintln!(rt;
-                    "refused 16: option 52 does not say which fields hold options: it is more than one part, or not one byte of 1 to 3"
-                )
-            }
-        }
+        Ok(_) => Ok(()),
+        Err(Refusal::FieldCut) => eprintln!(rt; "refused 15: a field that holds options is cut"),
+        Err(_) => eprintln!(rt;
+            "refused 16: option 52 does not say which fields hold options: it is more than one part, or not one byte of 1 to 3"
+        ),
     }
 }
 

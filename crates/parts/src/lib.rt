@@ -13,12 +13,12 @@ pub fn size_in_parts(len: u16, most: u16) -> usize
     if m == 0 {
         return n;
     }
-    n + 2 * ((n + (m - 1)) / m)
+    n + 2 * n.div_ceil(m)
 }
 
 // How many of so many the next part takes, where it takes no more than `most`.
 pub fn next_piece(left: usize, most: usize) -> usize
     ensures { result ≡ next_part most left }
 {
-    if left > most { most } else { left }
+    left.min(most)
 }

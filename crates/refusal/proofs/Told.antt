@@ -1,42 +1,20 @@
 -- Back from what an answer tells to the answer.
 -- Assumes nothing.
 use mathlib.Core.Path.{◌≡◌, refl, sym, ap, ◌∙◌}
-use Rattle.std.specs.Prelude.{ℕ, cond, eqb, Result, Ok, Err}
-use Rattle.rfc.specs.Numbers.{Answer, given, refused, needs}
+use Rattle.std.specs.Prelude.{ℕ, Result, Ok, Err}
+use Rattle.rfc.specs.Numbers.{Answer, given, refused, needs, and_then}
 use Rattle.refusal.specs.declared.Refusal.{Refusal}
 use Rattle.refusal.specs.declared.Refusal.TheVariants.{MessageTooShort, TooLong, ChaddrPastEnd, PastEnd, JoinTooShort, NoSuchCode, ValueTooLong, NoRoom, OtherKind, WrongLength, NotUtf8, WidthAbove32, OddPairs, UnclearYesNo, FieldCut, UnclearOverload, SizeAboveBuffer, DestinationBarred, NoOldForm}
-use Rattle.refusal.specs.Told.{says, told}
-
--- the refusal that an answer has, where it has one
-back_of : ℕ → Refusal
-back_of n =
-    cond (eqb n 1) MessageTooShort (
-    cond (eqb n 2) TooLong (
-    cond (eqb n 3) ChaddrPastEnd (
-    cond (eqb n 4) PastEnd (
-    cond (eqb n 6) NoSuchCode (
-    cond (eqb n 7) ValueTooLong (
-    cond (eqb n 8) NoRoom (
-    cond (eqb n 9) OtherKind (
-    cond (eqb n 10) WrongLength (
-    cond (eqb n 11) NotUtf8 (
-    cond (eqb n 12) WidthAbove32 (
-    cond (eqb n 13) OddPairs (
-    cond (eqb n 14) UnclearYesNo (
-    cond (eqb n 15) FieldCut (
-    cond (eqb n 16) UnclearOverload (
-    cond (eqb n 17) SizeAboveBuffer (
-    cond (eqb n 18) DestinationBarred (
-    NoOldForm)))))))))))))))))
+use Rattle.refusal.specs.Told.{says, told, number_of, needed_of, refusal_of}
 
 module _ {A : Type 0} where
   back : Answer A → Result A Refusal
   back (given x) = Ok x
-  back (refused n) = Err (back_of n)
+  back (refused n) = Err (refusal_of n)
   back (needs len) = Err (JoinTooShort len)
 
   back_says : (e : Refusal) → back (says e) ≡ Err e
-  unfolding back back_of
+  unfolding back refusal_of
   back_says MessageTooShort = refl
   back_says TooLong = refl
   back_says ChaddrPastEnd = refl
@@ -65,3 +43,36 @@ module _ {A : Type 0} where
   -- two answers that tell the same are the same
   pub told_one : (r q : Result A Refusal) → told r ≡ told q → r ≡ q
   told_one r q e = sym (back_told r) ∙ ap back e ∙ back_told q
+
+-- what holds of every number, and of 5 with every length, holds of what a refusal says in answer to either of two questions, of its number
+-- and of the length that it needs
+pub says_as : {A B : Type 0} (P : Answer A → Answer B → ℕ → ℕ → Type 0) → ((k : ℕ) → P (refused k) (refused k) k 0)
+    → ((len : ℕ) → P (needs len) (needs len) 5 len) → (e : Refusal) → P (says e) (says e) (number_of e) (needed_of e)
+says_as P numbered needing MessageTooShort = numbered 1
+says_as P numbered needing TooLong = numbered 2
+says_as P numbered needing ChaddrPastEnd = numbered 3
+says_as P numbered needing PastEnd = numbered 4
+says_as P numbered needing (JoinTooShort len) = needing len
+says_as P numbered needing NoSuchCode = numbered 6
+says_as P numbered needing ValueTooLong = numbered 7
+says_as P numbered needing NoRoom = numbered 8
+says_as P numbered needing OtherKind = numbered 9
+says_as P numbered needing WrongLength = numbered 10
+says_as P numbered needing NotUtf8 = numbered 11
+says_as P numbered needing WidthAbove32 = numbered 12
+says_as P numbered needing OddPairs = numbered 13
+says_as P numbered needing UnclearYesNo = numbered 14
+says_as P numbered needing FieldCut = numbered 15
+says_as P numbered needing UnclearOverload = numbered 16
+says_as P numbered needing SizeAboveBuffer = numbered 17
+says_as P numbered needing DestinationBarred = numbered 18
+says_as P numbered needing NoOldForm = numbered 19
+
+-- a refusal stands, whatever would be made of what was given
+pub says_then : {A B : Type 0} (f : A → Answer B) (e : Refusal) → and_then (says e) f ≡ says e
+unfolding and_then
+says_then {A} {B} f = says_as (λ (a : Answer A) (b : Answer B) k len. and_then a f ≡ b) (λ k. refl) (λ n. refl)
+
+-- nothing is given
+pub says_given : {A : Type 0} (x : A) (e : Refusal) → says e ≡ given x → ⊥
+says_given {A} x = says_as (λ (a b : Answer A) k len. a ≡ given x → ⊥) (λ k e. cc) (λ n e. cc)

@@ -4,6 +4,11 @@ use mathlib.Core.Path.{sym, ◌∙◌}
 use Rattle.facts.proofs.Unique.{Unique}
 use Rattle.refusal.proofs.Refusal.number.Kinds as number-kinds
 use Rattle.refusal.proofs.Refusal.number.Reads as number
+use Rattle.refusal.proofs.Refusal.needed.Kinds as needed-kinds
+use Rattle.refusal.proofs.Refusal.needed.Reads as needed
 
 number_unique : Unique 0 number-kinds.ps number-kinds.r number.Post
 number_unique κs a x y s t p q = p ∙ sym q
+
+needed_unique : Unique 0 needed-kinds.ps needed-kinds.r needed.Post
+needed_unique κs a x y s t p q = p ∙ sym q

@@ -1,6 +1,6 @@
 -- What a refusal is in the definitions, and what an answer of the code tells.
 -- Assumes nothing.
-use Rattle.std.specs.Prelude.{ℕ, Result, Ok, Err}
+use Rattle.std.specs.Prelude.{ℕ, cond, eqb, Result, Ok, Err}
 use Rattle.rfc.specs.Numbers.{Answer, given, refused, needs}
 use Rattle.refusal.specs.declared.Refusal.{Refusal}
 use Rattle.refusal.specs.declared.Refusal.TheVariants.{MessageTooShort, TooLong, ChaddrPastEnd, PastEnd, JoinTooShort, NoSuchCode, ValueTooLong, NoRoom, OtherKind, WrongLength, NotUtf8, WidthAbove32, OddPairs, UnclearYesNo, FieldCut, UnclearOverload, SizeAboveBuffer, DestinationBarred, NoOldForm}
@@ -26,6 +26,50 @@ number_of UnclearOverload = 16
 number_of SizeAboveBuffer = 17
 number_of DestinationBarred = 18
 number_of NoOldForm = 19
+
+-- and the refusal of a number, where one has it alone
+unfoldable pub refusal_of : ℕ → Refusal
+refusal_of n =
+    cond (eqb n 1) MessageTooShort (
+    cond (eqb n 2) TooLong (
+    cond (eqb n 3) ChaddrPastEnd (
+    cond (eqb n 4) PastEnd (
+    cond (eqb n 6) NoSuchCode (
+    cond (eqb n 7) ValueTooLong (
+    cond (eqb n 8) NoRoom (
+    cond (eqb n 9) OtherKind (
+    cond (eqb n 10) WrongLength (
+    cond (eqb n 11) NotUtf8 (
+    cond (eqb n 12) WidthAbove32 (
+    cond (eqb n 13) OddPairs (
+    cond (eqb n 14) UnclearYesNo (
+    cond (eqb n 15) FieldCut (
+    cond (eqb n 16) UnclearOverload (
+    cond (eqb n 17) SizeAboveBuffer (
+    cond (eqb n 18) DestinationBarred (
+    NoOldForm)))))))))))))))))
+
+-- the length that 5 needs
+abbrev pub needed_of : Refusal → ℕ
+needed_of MessageTooShort = 0
+needed_of TooLong = 0
+needed_of ChaddrPastEnd = 0
+needed_of PastEnd = 0
+needed_of (JoinTooShort len) = len
+needed_of NoSuchCode = 0
+needed_of ValueTooLong = 0
+needed_of NoRoom = 0
+needed_of OtherKind = 0
+needed_of WrongLength = 0
+needed_of NotUtf8 = 0
+needed_of WidthAbove32 = 0
+needed_of OddPairs = 0
+needed_of UnclearYesNo = 0
+needed_of FieldCut = 0
+needed_of UnclearOverload = 0
+needed_of SizeAboveBuffer = 0
+needed_of DestinationBarred = 0
+needed_of NoOldForm = 0
 
 -- what each says: its number, and with 5 the length that is needed
 abbrev pub says : {A : Type 0} → Refusal → Answer A

@@ -2,7 +2,7 @@
 #![tactic(auto)]
 
 ghost use Rattle.std.specs.Prelude.{◌≡◌};
-ghost use Rattle.refusal.specs.Told.{number_of};
+ghost use Rattle.refusal.specs.Told.{number_of, needed_of};
 
 #[derive(Clone, Copy, Debug, PartialEq, Eq)]
 pub enum Refusal {
@@ -71,6 +71,16 @@ impl Refusal {
             Refusal::SizeAboveBuffer => 17,
             Refusal::DestinationBarred => 18,
             Refusal::NoOldForm => 19,
+        }
+    }
+
+    // The length that 5 needs; 0 for every other.
+    pub fn needed(self) -> usize
+        ensures { result ≡ needed_of self }
+    {
+        match self {
+            Refusal::JoinTooShort(len) => len,
+            _ => 0,
         }
     }
 }

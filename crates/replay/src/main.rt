@@ -11,25 +11,11 @@ mod readings;
 mod report;
 mod writes;
 
-use report::{Ending, Tally};
+use report::{Ending, Sort, Tally};
 use std::fs::File;
 use std::io;
 use std::io::Read;
 use std::rt::Env;
-
-// What came of one record.
-#[derive(Drop)]
-enum Outcome {
-    Replayed { kind: u8, right: bool },
-    Ended(Ending),
-}
-
-// What was read of an input or an answer.
-#[derive(Drop)]
-enum Took {
-    Bytes(usize),
-    Ended(Ending),
-}
 
 fn main(rt: HostRuntime) -> io::Result<()> {
     let mut path = [0u8; 4096];
@@ -39,9 +25,10 @@ fn main(rt: HostRuntime) -> io::Result<()> {
     let Some(mut file) = open(&rt, &path[..length]) else {
         return println!(rt; "the file of answers cannot be opened");
     };
-    let tally = replay_all(&mut file);
+    let mut tally = Tally::new();
+    let ending = replay_all(&mut file, &mut tally);
     drop(file);
-    report::say(&rt, tally)
+    report::say(&rt, tally, ending)
 }
 
 // The file of a name, where it can be opened.
@@ -50,83 +37,56 @@ fn open(rt: &HostRuntime, name: &[u8]) -> Option<File> {
     File::open(rt, path).ok()
 }
 
-fn replay_all(file: &mut impl Read) -> Tally {
-    let mut tally = report::nothing();
-    let mut turns = u64::MAX;
-    while turns > 0 && tally.more {
-        tally = counted(tally, replay_one(file));
-        turns -= 1;
+// Replays the records, one after the other, and says why no other follows.
+fn replay_all(file: &mut impl Read, tally: &mut Tally) -> Ending {
+    for _ in 0..u64::MAX {
+        match replay_one(file) {
+            Ok((sort, right)) => tally.count(sort, right),
+            Err(ending) => return ending,
+        }
     }
-    tally
+    Ending::AtEnd
 }
 
-fn counted(tally: Tally, outcome: Outcome) -> Tally {
-    match outcome {
-        Outcome::Ended(ending) => report::ended(tally, ending),
-        Outcome::Replayed { kind, right } => report::judged(report::one_more(tally, kind), right),
-    }
-}
-
-// Reads one record and replays it.
-fn replay_one(file: &mut impl Read) -> Outcome {
+// Reads one record and replays it: its sort, and whether the answer is right.
+fn replay_one(file: &mut impl Read) -> Result<(Sort, bool), Ending> {
     let mut head = [0u8; 1];
     if file.read_exact(&mut head).is_err() {
-        return Outcome::Ended(Ending::AtEnd);
+        return Err(Ending::AtEnd);
     }
     let mut input = [0u8; 8192];
-    let first = read_counted(file, &mut input);
-    let Took::Bytes(size) = first else {
-        return ended(first);
-    };
+    let size = read_counted(file, &mut input)?;
     let mut answer = [0u8; 8192];
-    let second = read_counted(file, &mut answer);
-    let Took::Bytes(length) = second else {
-        return ended(second);
-    };
-    replay(
-        head[0],
+    let length = read_counted(file, &mut answer)?;
+    let sort = Sort::try_from(head[0])?;
+    let right = replay(
+        sort,
         borrowed::part(&input, 0, size),
         borrowed::part(&answer, 0, length),
-    )
-}
-
-fn ended(took: Took) -> Outcome {
-    match took {
-        Took::Ended(ending) => Outcome::Ended(ending),
-        Took::Bytes(_) => Outcome::Ended(Ending::Cut),
-    }
+    );
+    Ok((sort, right))
 }
 
 // Reads a length and so many bytes, to the start of `room`.
-fn read_counted(file: &mut impl Read, room: &mut [u8]) -> Took {
+fn read_counted(file: &mut impl Read, room: &mut [u8]) -> Result<usize, Ending> {
     let mut length = [0u8; 2];
     if file.read_exact(&mut length).is_err() {
-        return Took::Ended(Ending::Cut);
+        return Err(Ending::Cut);
     }
-    let size = decoder::be_u16(length[0], length[1]) as usize;
+    let size = usize::from(decoder::be_u16(length[0], length[1]));
     if size > room.len() {
-        return Took::Ended(Ending::TooLong);
+        return Err(Ending::TooLong);
     }
-    if file.read_exact(&mut room[0..size]).is_err() {
-        return Took::Ended(Ending::Cut);
+    if file.read_exact(&mut room[..size]).is_err() {
+        return Err(Ending::Cut);
     }
-    Took::Bytes(size)
+    Ok(size)
 }
 
-fn replay(kind: u8, input: &[u8], answer: &[u8]) -> Outcome {
-    match kind {
-        report::AREA => Outcome::Replayed {
-            kind,
-            right: areas::right(input, answer),
-        },
-        report::READING => Outcome::Replayed {
-            kind,
-            right: readings::right(input, answer),
-        },
-        report::WRITE => Outcome::Replayed {
-            kind,
-            right: writes::right(input, answer),
-        },
-        _ => Outcome::Ended(Ending::Unknown),
+fn replay(sort: Sort, input: &[u8], answer: &[u8]) -> bool {
+    match sort {
+        Sort::Area => areas::right(input, answer),
+        Sort::Reading => readings::right(input, answer),
+        Sort::Write => writes::right(input, answer),
     }
 }

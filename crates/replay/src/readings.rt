@@ -1,76 +1,57 @@
 // The plain reading of a value, told as the crate's was recorded: the number of the value's kind and its content, or 255 and the number of
 // the refusal. A list is its count (2 bytes) and its elements.
-use crate::pages;
+use crate::pages::Page;
 use crossing::answers::{Element, Value};
+use kinds::Kind;
 
 // Stands before the number of a refusal.
 const REFUSED: u8 = 255;
 
 // Whether a code and a value are read as recorded.
 pub(crate) fn right(input: &[u8], answer: &[u8]) -> bool {
-    if input.len() == 0 {
+    let Some((code, value)) = input.split_first() else {
         return false;
-    }
-    let mut page = [0u8; 8192];
-    let end = read(&mut page, input[0], &input[1..]);
-    pages::reads(&page, end, answer)
+    };
+    let mut page = Page::new();
+    read(&mut page, *code, value).is_some() && page.reads(answer)
 }
 
-// Puts what a value reads as on the page. Answers the place behind it.
-fn read(page: &mut [u8], code: u8, value: &[u8]) -> usize {
+// Puts what a value reads as on the page.
+fn read(page: &mut Page, code: u8, value: &[u8]) -> Option<()> {
     let held = sindovaleph_values::sindovaleph_read(code, value, false);
-    let refused = held.refused;
-    if refused > 0 {
-        return pages::put(page, 0, &[REFUSED, refused]);
+    if held.refused > 0 {
+        return page.put(&[REFUSED, held.refused]);
     }
     put_held(page, code, value, held)
 }
 
 // Puts a value's kind and its content on the page.
-fn put_held(page: &mut [u8], code: u8, value: &[u8], held: Value) -> usize {
-    let kind = held.kind;
-    let behind_kind = pages::put(page, 0, &[kind]);
+fn put_held(page: &mut Page, code: u8, value: &[u8], held: Value) -> Option<()> {
+    let kind = Kind::try_from(held.kind).ok()?;
+    page.put(&[held.kind])?;
     match kind {
-        kinds::RAW => pages::put(page, behind_kind, value),
-        kinds::TEXT => pages::put(page, behind_kind, value),
-        kinds::ADDRESSES => put_list(page, behind_kind, code, value, held.count, 4),
-        kinds::PAIRS => put_list(page, behind_kind, code, value, held.count, 8),
-        kinds::U16S => put_list(page, behind_kind, code, value, held.count, 2),
-        kinds::CODES => put_list(page, behind_kind, code, value, held.count, 1),
-        _ => pages::put_number(page, behind_kind, held.number, kinds::element_size(kind)),
+        Kind::Raw | Kind::Text => page.put(value),
+        Kind::Addresses | Kind::Pairs | Kind::U16s | Kind::Codes => put_list(page, code, value, held.count, kind.element_size()),
+        _ => page.put_number(held.number, kind.element_size()),
     }
 }
 
-fn put_list(
-    page: &mut [u8],
-    place: usize,
-    code: u8,
-    value: &[u8],
-    count: usize,
-    size: usize,
-) -> usize {
-    let mut at = pages::put_count(page, place, count);
-    let mut i: usize = 0;
-    while i < count {
-        at = put_element(
-            page,
-            at,
-            sindovaleph_elements::sindovaleph_element(code, value, i),
-            size,
-        );
-        i += 1;
+fn put_list(page: &mut Page, code: u8, value: &[u8], count: usize, size: usize) -> Option<()> {
+    page.put_count(count)?;
+    for i in 0..count {
+        put_element(page, sindovaleph_elements::sindovaleph_element(code, value, i), size)?;
     }
-    at
+    Some(())
 }
 
 // Puts an element of so many bytes; a pair is two numbers of four.
-fn put_element(page: &mut [u8], at: usize, element: Element, size: usize) -> usize {
+fn put_element(page: &mut Page, element: Element, size: usize) -> Option<()> {
     if element.refused > 0 {
-        return pages::NOWHERE;
+        return None;
     }
     if size < 8 {
-        return pages::put_number(page, at, element.first, size);
+        return page.put_number(element.first, size);
     }
-    let between = pages::put_number(page, at, element.first, 4);
-    pages::put_number(page, between, element.second, 4)
+    page.put_number(element.first, 4)?;
+    page.put_number(element.second, 4)
 }

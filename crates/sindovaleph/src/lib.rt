@@ -36,14 +36,14 @@ pub fn sindovaleph_header(message: &[u8]) -> Fields
 pub fn sindovaleph_xid(message: &[u8]) -> Field
     ensures { result ≡ field_of (rfc.field rfc.xid message.now) }
 {
-    crossing::field_of(Header::xid(message))
+    Field::from(Header::xid(message))
 }
 
 // The kind of a code.
 pub fn sindovaleph_kind_of(code: u8) -> u8
     ensures { result ≡ kind_of code }
 {
-    kinds::kind_of(code)
+    kinds::kind_of(code).number()
 }
 
 // Whether bytes are UTF-8.
@@ -60,18 +60,7 @@ pub fn sindovaleph_step(area: &[u8], place: usize, join: &mut [u8]) -> Step
     ensures { Stepped area.now place join.old join.new result }
 {
     match borrowed::first(area, place) {
-        First::Alone {
-            code,
-            len,
-            place: to,
-        } => Step {
-            refused: 0,
-            stop: 0,
-            code,
-            parts: 1,
-            len,
-            place: to,
-        },
+        First::Alone(found) => Step::from(found),
         First::Ends(to) => Step {
             refused: 0,
             stop: 2,

@@ -12,7 +12,7 @@ use crossing::answers::{Field, Step};
 pub fn sindovaleph_overload(message: &[u8]) -> Field
     ensures { result ≡ field_of (rfc.overload_of message.now) }
 {
-    crossing::field_of(aggregate::fields::overload(message))
+    Field::from(aggregate::fields::overload(message))
 }
 
 // What `code` is in the message: an option, or out where it has no part.

@@ -12,5 +12,5 @@ use crossing::answers::Element;
 pub fn sindovaleph_element(code: u8, value: &[u8], index: usize) -> Element
     ensures { result ≡ element_of (element index (read plain code value.now)) }
 {
-    crossing::element_of(values::element(code, value, index))
+    Element::from(values::element(code, value, index))
 }

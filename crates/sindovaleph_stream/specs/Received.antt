@@ -1,12 +1,12 @@
 -- How a stream and the answer of a call cross the boundary, as plain numbers.
 -- Assumes nothing.
-use Rattle.std.specs.Prelude.{ℕ, ◌≡◌, cond, List, eqb}
+use Rattle.std.specs.Prelude.{ℕ, ◌≡◌, cond, List, eqb, Option, Some, None, Result, Ok, Err}
+use Rattle.refusal.specs.declared.Refusal.{Refusal}
+use Rattle.refusal.specs.Told.{number_of}
 use Rattle.rfc.specs.Stream as rfc
 use Rattle.stream.specs.Streamed.{answer_of}
 use Rattle.stream.specs.declared.Stream as state
 use Rattle.stream.specs.declared.Stream.TheVariants.{Between, Sizing, Filling, Shut}
-use Rattle.stream.specs.declared.Frame.{Frame}
-use Rattle.stream.specs.declared.Frame.TheVariants.{More, Message, Refused}
 use Rattle.stream.specs.declared.Taken.{Taken}
 use Rattle.sindovaleph_stream.specs.declared.Stream.{Stream}
 use Rattle.sindovaleph_stream.specs.declared.Received.{Received}
@@ -24,16 +24,15 @@ plain_of (Filling size filled) = record { state = 2; high = 0; size = size; fill
 plain_of Shut = record { state = 3; high = 0; size = 0; filled = 0 }
 
 -- the number of a refusal, 0 for none
-abbrev pub refusal_of : Frame → ℕ
-refusal_of More = 0
-refusal_of (Message len) = 0
-refusal_of (Refused number) = number
+abbrev pub refusal_of : Result (Option ℕ) Refusal → ℕ
+refusal_of (Ok handed) = 0
+refusal_of (Err e) = number_of e
 
 -- the length of a message, 0 for none
-abbrev pub len_of : Frame → ℕ
-len_of More = 0
-len_of (Message len) = len
-len_of (Refused number) = 0
+abbrev pub len_of : Result (Option ℕ) Refusal → ℕ
+len_of (Ok None) = 0
+len_of (Ok (Some len)) = len
+len_of (Err e) = 0
 
 -- an answer as plain numbers
 abbrev pub received_of : Taken → Received

@@ -5,9 +5,9 @@
 ghost use Rattle.std.specs.Prelude.{◌≡◌};
 ghost use Rattle.rfc.specs.Stream as rfc;
 ghost use Rattle.stream.specs.Streamed.{stands_at};
-ghost use Rattle.sindovaleph_stream.specs.Received.{state_of, plain_of, refusal_of, len_of, received_of, Receives};
+ghost use Rattle.sindovaleph_stream.specs.Received.{state_of, plain_of, received_of, Receives};
 
-use stream::{Frame, Stream as State, Taken};
+use stream::{Stream as State, Taken};
 
 // Where a stream stands. `state` is 0 between two frames; 1 where the first byte of a size was read, which is `high`; 2 where of a frame of
 // `size` bytes the first `filled` stand in the buffer; any other number is a refused stream, answered as 3. Numbers that a state does not
@@ -36,38 +36,37 @@ pub struct Received {
 pub fn sindovaleph_receive(stream: Stream, buffer: &mut [u8], chunk: &[u8]) -> Received
     ensures { Receives (rfc.receive (stands_at (state_of stream)) buffer.old chunk.now) buffer.new result }
 {
-    received_of(stream::receive(state_of(stream), buffer, chunk))
+    Received::from(stream::receive(State::from(stream), buffer, chunk))
 }
 
 // The stream that plain numbers stand for.
-fn state_of(stream: Stream) -> State
-    ensures { result ≡ state_of stream }
-{
-    let state = stream.state;
-    if state == 0 {
-        return State::Between;
+impl From<Stream> for State {
+    ghost from_gives = { λ plain state. state ≡ state_of plain };
+
+    fn from(plain: Stream) -> State {
+        match plain.state {
+            0 => State::Between,
+            1 => State::Sizing(plain.high),
+            2 => State::Filling {
+                size: plain.size,
+                filled: plain.filled,
+            },
+            _ => State::Shut,
+        }
     }
-    if state == 1 {
-        return State::Sizing(stream.high);
-    }
-    if state == 2 {
-        return State::Filling {
-            size: stream.size,
-            filled: stream.filled,
-        };
-    }
-    State::Shut
 }
 
 // The plain numbers that stand for a stream.
-fn plain_of(state: State) -> Stream
-    ensures { result ≡ plain_of state }
-{
-    match state {
-        State::Between => plain(0, 0, 0, 0),
-        State::Sizing(high) => plain(1, high, 0, 0),
-        State::Filling { size, filled } => plain(2, 0, size, filled),
-        State::Shut => plain(3, 0, 0, 0),
+impl From<State> for Stream {
+    ghost from_gives = { λ state plain. plain ≡ plain_of state };
+
+    fn from(state: State) -> Stream {
+        match state {
+            State::Between => plain(0, 0, 0, 0),
+            State::Sizing(high) => plain(1, high, 0, 0),
+            State::Filling { size, filled } => plain(2, 0, size, filled),
+            State::Shut => plain(3, 0, 0, 0),
+        }
     }
 }
 
@@ -83,37 +82,19 @@ fn plain(state: u8, high: u8, size: u16, filled: u16) -> Stream
 }
 
 // An answer as plain numbers.
-fn received_of(taken: Taken) -> Received
-    ensures { result ≡ received_of taken }
-{
-    let frame = taken.frame;
-    let state = taken.stream;
-    Received {
-        refused: refusal_of(frame),
-        len: len_of(frame),
-        used: taken.used,
-        stream: plain_of(state),
-    }
-}
+impl From<Taken> for Received {
+    ghost from_gives = { λ taken received. received ≡ received_of taken };
 
-// The number of a refusal, 0 for none.
-fn refusal_of(frame: Frame) -> u8
-    ensures { result ≡ refusal_of frame }
-{
-    match frame {
-        Frame::More => 0,
-        Frame::Message(len) => 0,
-        Frame::Refused(number) => number,
-    }
-}
-
-// The length of a message, 0 for none.
-fn len_of(frame: Frame) -> usize
-    ensures { result ≡ len_of frame }
-{
-    match frame {
-        Frame::More => 0,
-        Frame::Message(len) => len,
-        Frame::Refused(number) => 0,
+    fn from(taken: Taken) -> Received {
+        let (refused, len) = match taken.frame {
+            Ok(message) => (0, message.unwrap_or(0)),
+            Err(refusal) => (refusal.number(), 0),
+        };
+        Received {
+            refused,
+            len,
+            used: taken.used,
+            stream: Stream::from(taken.stream),
+        }
     }
 }

@@ -13,5 +13,5 @@ use crossing::answers::Value;
 pub fn sindovaleph_read(code: u8, value: &[u8], strict: bool) -> Value
     ensures { result ≡ value_of (read (mode_of strict) code value.now) }
 {
-    crossing::value_of(values::read(code, value, strict))
+    Value::from(values::read(code, value, strict))
 }

@@ -1,24 +1,11 @@
 -- `first` meets its contract: a law of the first look for each return.
 -- Assumes nothing.
 use native.Mathlib.Omega.{arith}
-use Rattle.rfc.proofs.Walk.{look_2}
 use Rattle.rfc.proofs.Places.{end_at, cut_value_at, further_none_at, further_other_at}
-use Rattle.borrowed.specs.Walked.{Starts}
-use Rattle.borrowed.proofs.Answers.{looked, starts_alone}
-use Rattle.borrowed.proofs.FirstLook.{first_short, first_pad, first_refused, first_told, first_several}
+use Rattle.borrowed.proofs.Answers.{looked, starts_at, starts_alone}
+use Rattle.borrowed.proofs.FirstLook.{first_told, first_several}
 use Rattle.borrowed.proofs.first.Goals as goal
-
-pub returns-then-size-gt-MOST_BYTES : goal.returns-then-size-gt-MOST_BYTES
-returns-then-size-gt-MOST_BYTES c = first_refused _ _ 2 (look_2 _ _ c.if-size-gt-MOST_BYTES.true)
-
-pub returns-then-size-lt2 : goal.returns-then-size-lt2
-returns-then-size-lt2 c = first_short _ _ (omega arith)
-
-pub returns-then-place-last : goal.returns-then-place-last
-returns-then-place-last c = first_short _ _ (omega arith)
-
-pub returns-then-code-eq0 : goal.returns-then-code-eq0
-returns-then-code-eq0 c = first_pad _ _ c.if-code-eq0.true
+use Rattle.borrowed.proofs.first.Goals.{else-to-size-via-then-to-size+else-area-to, else-to-size-via-else-to-size}
 
 pub returns-then-code : goal.returns-then-code
 returns-then-code c = first_told _ _ (omega arith) c.if-code-eq0.false (looked _ _ (omega arith) (omega arith) (end_at _ _ (omega arith) c.if-code.true))
@@ -32,38 +19,17 @@ returns-then-len-last c =
 
 pub returns-then-area-to : goal.returns-then-area-to
 returns-then-area-to c =
-    let starts : Starts c.args.area.now c.args.place =
-    record {
-      small = omega arith;
-      inside = omega arith;
-      other = c.if-code-eq0.false;
-      goes_on = c.if-code.false;
-      within = omega arith;
-    } in
-    first_several _ _ (record { starts = starts; inside = c.if-to-size.true; same = c.if-area-to.true })
+    first_several _ _ (record {
+      starts = starts_at _ _ (omega arith) (omega arith) c.if-code-eq0.false c.if-code.false;
+      inside = c.if-to-size.true;
+      same = c.if-area-to.true;
+    })
 
-pub returns-else-area-to : goal.returns-else-area-to
-returns-else-area-to c =
-    let starts : Starts c.args.area.now c.args.place =
-    record {
-      small = omega arith;
-      inside = omega arith;
-      other = c.if-code-eq0.false;
-      goes_on = c.if-code.false;
-      within = omega arith;
-    } in
-    let s = starts in
-    first_told _ _ (omega arith) s.other (starts_alone s (further_other_at _ _ _ c.if-to-size.true c.if-area-to.false))
-
-pub returns-else-to-size : goal.returns-else-to-size
-returns-else-to-size c =
-    let starts : Starts c.args.area.now c.args.place =
-    record {
-      small = omega arith;
-      inside = omega arith;
-      other = c.if-code-eq0.false;
-      goes_on = c.if-code.false;
-      within = omega arith;
-    } in
-    let s = starts in
-    first_told _ _ (omega arith) s.other (starts_alone s (further_none_at _ _ _ c.if-to-size.false))
+pub returns : goal.returns
+returns c =
+    let s = starts_at c.args.area.now c.args.place (omega arith) (omega arith) c.if-code-eq0.false c.if-code.false in
+    elim c.else-to-size.branch [
+      | else-to-size-via-then-to-size+else-area-to w ↦
+          first_told _ _ (omega arith) s.other (starts_alone s (further_other_at _ _ _ w.if-to-size.true w.if-area-to.false))
+      | else-to-size-via-else-to-size w ↦ first_told _ _ (omega arith) s.other (starts_alone s (further_none_at _ _ _ w.if-to-size.false))
+    ]

@@ -1,20 +1,17 @@
 -- `step` meets its contract: how the call begins is its answer, or that of the parts from there on.
 -- Assumes nothing.
-use mathlib.Core.Path.{refl}
-use Rattle.borrowed.proofs.Answers.{passes_stop, passes_refused, passes_alone, passes_on}
+use Rattle.std.proofs.lemmas.Result.{err_from_is_err_and}
+use Rattle.borrowed.proofs.Answers.{passes_refused, passes_done, passes_on}
 use Rattle.borrowed.proofs.step.Goals as goal
 
-pub returns-in-Refused : goal.returns-in-Refused
-returns-in-Refused c = passes_refused _ _ _ _ (rw c.in-Refused.is at c.begin.ensures)
+pub returns-in_err-step : goal.returns-in_err-step
+returns-in_err-step c =
+    let e = err_from_is_err_and c.from_residual.result c.from_residual.ensures.1 in rw (e.1, e.2) (passes_refused _ _ _ _ c.in_err-step.ensures)
 
-pub returns-in-Stopped : goal.returns-in-Stopped
-returns-in-Stopped c = passes_stop _ _ _ _ _ (rw c.in-Stopped.is at c.begin.ensures)
-
-pub returns-in-Alone : goal.returns-in-Alone
-returns-in-Alone c =
-    rw c.alone.ensures
-    (passes_alone _ _ (rw c.in-Alone.is at c.begin.ensures) refl)
+pub returns-in-Done : goal.returns-in-Done
+returns-in-Done c =
+    let begun = rw c.in-Done.is at c.in_ok-step.ensures in passes_done _ _ _ _ begun.0 begun.1
 
 pub returns-in-Several : goal.returns-in-Several
 returns-in-Several c =
-    passes_on _ _ _ _ (rw c.in-Several.is at c.begin.ensures).1 c.several.ensures
+    passes_on _ _ _ _ (rw c.in-Several.is at c.in_ok-step.ensures).1 c.several.ensures

@@ -1,10 +1,6 @@
 -- `join_parts` meets its contract: after each turn some parts are joined (`Joined`), and the next one fits.
 -- Assumes nothing.
-use Prim.Native.Nat.{ℕ, ◌+◌, ◌≤◌}
 use native.Mathlib.Omega.{arith}
-use mathlib.Core.List.{List}
-use lib.ListN.{length, get_or}
-use Rattle.borrowed.specs.Walked.{behind}
 use Rattle.borrowed.proofs.Joining.{joined_none, part_fits, joined_empty, joined_more}
 use Rattle.borrowed.proofs.parts.join_parts.Goals as goal
 
@@ -12,49 +8,19 @@ pub loop-i-init : goal.loop-i-init
 loop-i-init c = joined_none c.requires
 
 pub bounds-area-i : goal.bounds-area-i
-bounds-area-i c =
-    let area : List ℕ =
-    c.args.area.now in
-    let n : ℕ =
-    get_or area (c.loop-i.i + 1) 0 in
-    let fits : (behind area c.loop-i.i ≤ length area) × (c.loop-i.to + n ≤ length c.loop-i.join) =
-    part_fits c.loop-i.invariant c.loop-i-test.true in
-    omega (arith, fits)
+bounds-area-i c = omega (arith, part_fits c.loop-i.invariant c.loop-i-test.true)
 
 pub overflow_add-i : goal.overflow_add-i
-overflow_add-i c =
-    let area : List ℕ =
-    c.args.area.now in
-    let n : ℕ =
-    get_or area (c.loop-i.i + 1) 0 in
-    let fits : (behind area c.loop-i.i ≤ length area) × (c.loop-i.to + n ≤ length c.loop-i.join) =
-    part_fits c.loop-i.invariant c.loop-i-test.true in
-    omega (arith, fits)
+overflow_add-i c = omega (arith, part_fits c.loop-i.invariant c.loop-i-test.true)
 
 pub slice_bounds-write_slice-end : goal.slice_bounds-write_slice-end
-slice_bounds-write_slice-end c =
-    let area : List ℕ =
-    c.args.area.now in
-    let n : ℕ =
-    get_or area (c.loop-i.i + 1) 0 in
-    let fits : (behind area c.loop-i.i ≤ length area) × (c.loop-i.to + n ≤ length c.loop-i.join) =
-    part_fits c.loop-i.invariant c.loop-i-test.true in
-    omega (arith, fits)
+slice_bounds-write_slice-end c = omega (arith, part_fits c.loop-i.invariant c.loop-i-test.true)
 
 pub slice_bounds-write_slice-end-then-n-ne0 : goal.slice_bounds-write_slice-end-then-n-ne0
-slice_bounds-write_slice-end-then-n-ne0 c =
-    let area : List ℕ =
-    c.args.area.now in
-    let n : ℕ =
-    get_or area (c.loop-i.i + 1) 0 in
-    let fits : (behind area c.loop-i.i ≤ length area) × (c.loop-i.to + n ≤ length c.loop-i.join) =
-    part_fits c.loop-i.invariant c.loop-i-test.true in
-    omega (arith, fits)
+slice_bounds-write_slice-end-then-n-ne0 c = omega (arith, part_fits c.loop-i.invariant c.loop-i-test.true)
 
 pub loop-i-preserved-then-n-ne0 : goal.loop-i-preserved-then-n-ne0
-loop-i-preserved-then-n-ne0 c =
-    joined_more c.loop-i.invariant c.loop-i-test.true c.write_slice.ensures
+loop-i-preserved-then-n-ne0 c = joined_more c.loop-i.invariant c.loop-i-test.true c.write_slice.ensures
 
 pub loop-i-preserved : goal.loop-i-preserved
-loop-i-preserved c =
-    joined_empty c.loop-i.invariant c.loop-i-test.true c.if-n-ne0.false
+loop-i-preserved c = joined_empty c.loop-i.invariant c.loop-i-test.true c.if-n-ne0.false
