@@ -45,6 +45,7 @@ struct Scan {
 
 // The row that begins at `place`, if the value does not end there. Behind a width there are four bytes or more, so that the destination is
 // read with what stands behind its significant bytes, which is masked away.
+#[tactic(auto, using(rfc::proofs::Classless::from_2, rfc::proofs::Classless::from_4, rfc::proofs::Classless::from_end))]
 pub fn route_from(value: &[u8], place: usize) -> Result<Option<Row>, Refusal>
     ensures { told_by there result ≡ read.route_from value.now place }
 {
@@ -113,6 +114,7 @@ fn scan_rows(value: &[u8], index: usize) -> Result<Scan, Refusal>
 }
 
 // An address with the bits behind its first `width` ones put to zero.
+#[tactic(auto, using(rfc::proofs::Classless::masked_none, rfc::proofs::Classless::masked_shift))]
 fn masked(width: u8, address: u32) -> u32
     requires { width ≤ 32 }
     ensures { result ≡ read.masked width address }
@@ -125,13 +127,11 @@ fn masked(width: u8, address: u32) -> u32
 }
 
 // How many bytes of a destination are written.
+#[tactic(auto, using(rfc::proofs::Routes::significant_is))]
 pub fn significant(width: u8) -> usize
     ensures { result ≡ min 4 (rfc.significant width) }
 {
-    if width > MOST_WIDTH {
-        return ADDRESS;
-    }
-    (width as usize + 7) / 8
+    usize::from(width).div_ceil(8).min(ADDRESS)
 }
 
 // Puts the bytes of one route: its width, the significant bytes of its destination, its gateway.

@@ -8,17 +8,8 @@ use Rattle.rfc.specs.Numbers.{given, most_bytes}
 use Rattle.rfc.specs.Routes.{most_width}
 use Rattle.rfc.specs.Classless as read
 use Rattle.rfc.proofs.Bytes.{bytes_known}
-use Rattle.rfc.proofs.Classless.{row_12, from_2, from_4, from_end, from_refused, from_route, cut_10, whole_clear, whole_to, whole_route}
+use Rattle.rfc.proofs.Classless.{row_12, from_refused, from_route, cut_10, whole_clear, whole_to, whole_route}
 use Rattle.classless.proofs.route_from.Goals as goal
-
-pub returns-then-value-gt-MOST_BYTES : goal.returns-then-value-gt-MOST_BYTES
-returns-then-value-gt-MOST_BYTES c = sym (from_2 c.args.value.now c.args.place (omega arith))
-
-pub returns-then-place-value : goal.returns-then-place-value
-returns-then-place-value c = sym (from_4 c.args.value.now c.args.place (omega arith) (omega arith))
-
-pub returns-then-place-value-2 : goal.returns-then-place-value-2
-returns-then-place-value-2 c = sym (from_end c.args.value.now c.args.place (omega arith) (omega arith))
 
 pub returns-then-width-gt-MOST_WIDTH : goal.returns-then-width-gt-MOST_WIDTH
 returns-then-width-gt-MOST_WIDTH c =
