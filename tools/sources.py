@@ -30,8 +30,8 @@ class Token:
 class Function:
     crate: str
     file: Path
-    # As another crate writes it, without the crate's name: `look`, `lists::write_pairs`, `Header::op`; of a trait's it is what a proof writes:
-    # the type, the trait and the function, `FieldFrom::from`.
+    # As another crate writes it, without the crate's name: `look`, `lists::write_pairs`, `Header::op`; of a trait's it is what a proof writes,
+    # by the type, the trait and the function: `ValueFromHeld::from`.
     path: str
     # Whether other crates can call it. Of the traits' functions those that convert count.
     public: bool
@@ -88,8 +88,9 @@ def closing(found, at):
 
 def body_of(found, at):
     """The index of the brace that opens the body of the function at `at`, behind its clauses, or of the `;` in its place in a trait."""
-    i = at
-    while found[i].text not in ("{", ";"):
+    i, inside = at, 0
+    while found[i].text != "{" and (inside > 0 or found[i].text != ";"):
+        inside += {"[": 1, "]": -1}.get(found[i].text, 0)
         i = closing(found, i + 1) + 1 if found[i].text in ("requires", "ensures", "ghost") else i + 1
     return i
 
@@ -111,8 +112,9 @@ def owner_of(found, at):
     head = [token.text for token in found[at + 1 : opening]]
     if "for" not in head:
         return head[0] + "::", False, opening
-    of = head[head.index("for") + 1]
-    return f"{of[0].upper()}{of[1:]}{head[0]}::", head[0] in CONVERSIONS, opening
+    trait = [word for word in head[: head.index("for")] if word[0].isalpha()]
+    words = [head[head.index("for") + 1], *trait]
+    return "".join(word[0].upper() + word[1:] for word in words) + "::", trait[0] in CONVERSIONS, opening
 
 
 def functions_in(crate, file, text, module, public):

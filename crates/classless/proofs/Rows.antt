@@ -1,128 +1,139 @@
--- The laws of `specs/Rows.antt`: the row at a place, by the tests of the code that reads it; what it tells one who goes on row by row; and a
--- scan over all rows.
+-- What an answer of the reader tells: back to the answer; and the row at a place, for one who goes on row by row.
 -- Assumes nothing.
-use mathlib.Core.Path.{◌≡◌, refl, sym, ap, ◌∙◌}
+use mathlib.Core.Path.{◌≡◌, refl, sym, ap, ◌∙◌, subst}
 use Prim.Native.Nat.{ℕ, ◌+◌, ◌-◌, ◌≤◌, ◌<◌, min}
-use mathlib.Core.List.{List, ◌∷◌}
+use mathlib.Core.List.{List, [], ◌∷◌}
 use native.Mathlib.Omega.{arith}
 use native.Mathlib.Decide.{dec_le}
-use lib.Dec.{lit<}
-use lib.ListN.{length, drop, get_or}
-use Rattle.facts.specs.BigEndian.{number_at}
-use Rattle.rfc.specs.Numbers.{Answer, given, refused, most_bytes, first_refusal}
-use Rattle.rfc.specs.Lists.{Bytes}
-use Rattle.rfc.specs.Routes.{Route, most_width, significant}
-use Rattle.rfc.specs.Classless.{masked, row_checks, RouteRow, route_rows, RouteThere, no_route, route, route_from}
-use Rattle.rfc.proofs.Numbers.{Refuses, Clear, first_is, none_first}
-use Rattle.rfc.proofs.Classless.{route_row_of, row_12, from_2, from_4, from_end, from_rows, from_refused, from_route, cut_10, whole_clear, whole_to, whole_route, whole_rows}
-use Rattle.classless.specs.Rows.{none_at, found_to, route_here}
-use Rattle.classless.specs.declared.ReadRoute.{ReadRoute}
+use lib.ListN.{length, drop, get_or, drop_of_length-le}
+use Rattle.std.specs.Prelude.{Option, Some, None, Result, Ok, Err}
+use Rattle.rfc.specs.Numbers.{Answer, refused, most_bytes}
+use Rattle.rfc.specs.Routes as rfc
+use Rattle.rfc.specs.Routes.{most_width, significant}
+use Rattle.rfc.specs.Classless.{row_checks, route_in, behind_width, RouteRow, route_rows, RouteThere, no_route, route, route_from}
+use Rattle.rfc.proofs.Numbers.{Refuses, Clear, given_no}
+use Rattle.rfc.proofs.Classless.{route_row_of, row_12, rows_none, from_2, from_end, from_rows, from_refused, from_route, cut_10, whole_clear, whole_to, whole_rows}
+use Rattle.refusal.specs.declared.Refusal.{Refusal}
+use Rattle.refusal.specs.declared.Refusal.TheVariants.{WidthAbove32, WrongLength}
+use Rattle.refusal.specs.Told.{says, told}
+use Rattle.refusal.proofs.Told.{told_one, says_as}
+use Rattle.classless.specs.Rows.{told_by, route_of, there}
+use Rattle.classless.specs.declared.Route.{Route}
+use Rattle.classless.specs.declared.Row.{Row}
 
-here_refused : (place k : ℕ) (x : Answer RouteThere) → x ≡ refused k → none_at k place ≡ route_here place x
-unfolding route_here
-here_refused place k x e = rw e
+-- two answers that tell the same are the same, where what was given can be told from the other words
+module _ {A B : Type 0} (f : A → B) (g : B → A) (back : (x : A) → g (f x) ≡ x) where
+  in_words : Result A Refusal → Result B Refusal
+  in_words (Ok x) = Ok (f x)
+  in_words (Err e) = Err e
 
-here_none : (place : ℕ) (x : Answer RouteThere) → x ≡ given no_route → none_at 0 place ≡ route_here place x
-unfolding route_here
-here_none place x e = rw e
+  out_of : Result B Refusal → Result A Refusal
+  out_of (Ok y) = Ok (g y)
+  out_of (Err e) = Err e
 
-here_route : (place to : ℕ) (r : Route) (x : Answer RouteThere) → x ≡ given (route r to) → found_to r to ≡ route_here place x
-unfolding route_here
-here_route place to r x e = rw e
+  told_in : (r : Result A Refusal) → told_by f r ≡ told (in_words r)
+  unfolding in_words
+  told_in (Ok x) = refl
+  told_in (Err e) = refl
 
--- what a row tells one who goes on behind it: the first of the rows from its place on; and, where it is not refused, where the next begins
-pub record NextRow (v : List ℕ) (place : ℕ) (answer : ReadRoute) : Type 0 where
-  pub row : RouteRow
-  pub more : List RouteRow
-  pub rows : route_rows (drop place v) ≡ row ∷ more
-  pub number : answer.refused ≡ first_refusal row.checks
-  pub clear : answer.refused ≤ 0 → Clear row.checks
-  pub is : answer.refused ≤ 0 → answer ≡ found_to row.route answer.place
-  pub on : answer.refused ≤ 0 → more ≡ route_rows (drop answer.place v)
-  pub far : answer.refused ≤ 0 → (place < answer.place) × (answer.place ≤ length v)
+  out_in : (r : Result A Refusal) → out_of (in_words r) ≡ r
+  unfolding in_words out_of
+  out_in (Ok x) = ap Ok (back x)
+  out_in (Err e) = refl
 
--- the row at a place, test by test
-module _ (v : List ℕ) (place : ℕ) where
-  abbrev answer : ReadRoute
-  answer = route_here place (route_from v place)
+  pub told_by_one : (r q : Result A Refusal) → told_by f r ≡ told_by f q → r ≡ q
+  told_by_one r q e =
+      sym (out_in r) ∙ ap out_of (told_one (in_words r) (in_words q) (sym (told_in r) ∙ e ∙ told_in q)) ∙ out_in q
 
-  pub row_2 : most_bytes < length v → none_at 2 place ≡ answer
-  row_2 a = here_refused place 2 _ (from_2 v place a)
+-- a refusal says the same number in answer to any question
+pub says_same : {A B : Type 0} (e : Refusal) (n : ℕ) → says {A = A} e ≡ refused n → says {A = B} e ≡ refused n
+says_same {A} {B} e n =
+    says_as (λ (a : Answer A) (b : Answer B) k len. a ≡ refused n → b ≡ refused n) (λ k e. let same : k ≡ n = cc in ap refused same)
+    (λ len e. cc) e
 
-  module _ (a : length v ≤ most_bytes) where
-    pub row_4 : length v < place → none_at 4 place ≡ answer
-    row_4 b = here_refused place 4 _ (from_4 v place a b)
+-- a route, and what begins at a place
+abbrev pub route_back : rfc.Route → Route
+route_back r = record { width = r.width; destination = r.destination; gateway = r.gateway }
 
-    pub row_end : place ≡ length v → none_at 0 place ≡ answer
-    row_end e = here_none place _ (from_end v place a e)
+abbrev pub there_back : RouteThere → Option Row
+there_back no_route = None
+there_back (route r to) = Some (record { route = route_back r; place = to })
 
-    module _ (b : place < length v) where
-      abbrev width : ℕ
-      width = get_or v place 0
+there_again : (x : Option Row) → there_back (there x) ≡ x
+there_again None = refl
+there_again (Some row) = refl
 
-      abbrev rest : List ℕ
-      rest = drop (place + 1) v
+pub route_one : (r q : Result Route Refusal) → told_by route_of r ≡ told_by route_of q → r ≡ q
+route_one = told_by_one route_of route_back (λ r. refl)
 
-      refused_here : (k : ℕ) → Refuses (row_checks width rest) k → none_at k place ≡ answer
-      refused_here k r = here_refused place k _ (from_refused v place a b k r)
+pub row_one : (r q : Result (Option Row) Refusal) → told_by there r ≡ told_by there q → r ≡ q
+row_one = told_by_one there there_back there_again
 
-      pub row_wide : most_width < width → none_at 12 place ≡ answer
-      row_wide h = refused_here 12 (row_12 width rest h)
+-- where something is given, the value is not too long
+pub short_given : (v : List ℕ) (place : ℕ) (x : Option Row) → told_by there (Ok x) ≡ route_from v place → length v ≤ most_bytes
+short_given v place x e = go (dec_le (length v) most_bytes)
+  where
+    go : Dec (length v ≤ most_bytes) → length v ≤ most_bytes
+    go (yes h) = h
+    go (no h) = absurd (given_no (there x) 2 (e ∙ from_2 v place (omega arith)))
 
-      module _ (n : ℕ) (least : width ≤ most_width) (is : n ≡ min 4 (significant width)) where
-        pub row_cut : length v - (place + 1) < n + 4 → none_at 10 place ≡ answer
-        row_cut h = refused_here 10 (cut_10 v place a b n least is h)
+-- the row at a place, by what is answered there: the rows from there on, and where the next one begins
+pub data Ahead (v : List ℕ) (place : ℕ) : Result (Option Row) Refusal → Type 0 where
+  ends : route_rows (drop place v) ≡ [] → Ahead v place (Ok None)
+  stops : {e : Refusal} (row : RouteRow) (more : List RouteRow) → route_rows (drop place v) ≡ row ∷ more
+      → (k : ℕ) → Refuses row.checks k → says {A = ℕ} e ≡ refused k → Ahead v place (Err e)
+  goes : {next : Row} (row : RouteRow) → route_rows (drop place v) ≡ row ∷ route_rows (drop next.place v)
+      → Clear row.checks → row.route ≡ route_of next.route → place < next.place → next.place ≤ length v → Ahead v place (Ok (Some next))
 
-        pub row_found : n + 4 ≤ length v - (place + 1) → Bytes v
-            → found_to (record {
-              width = width;
-              destination = masked width (number_at 4 v (place + 1));
-              gateway = number_at 4 v (place + 1 + n);
-            }) (place + 1 + n + 4) ≡ answer
-        row_found h bytes =
-            (λ i. found_to (sym (whole_route v place a b n least is h bytes) i) (sym (whole_to v place a b n least is h) i))
-            ∙ here_route place _ _ _ (from_route v place a b (whole_clear v place a b n least is h))
+module _ (v : List ℕ) (place : ℕ) (short : length v ≤ most_bytes) where
+  abbrev width : ℕ
+  width = get_or v place 0
 
-      -- so what a row tells
-      next_refused : (k : ℕ) → 0 < k → Refuses (row_checks width rest) k → NextRow v place answer
-      next_refused k some r =
-          rw (← refused_here k r)
-          (record {
-            row = route_row_of width rest;
-            more = _;
-            rows = from_rows v place a b;
-            number = sym (first_is r);
-            clear = λ h. absurd (omega arith);
-            is = λ h. absurd (omega arith);
-            on = λ h. absurd (omega arith);
-            far = λ h. absurd (omega arith);
-          })
+  abbrev rest : List ℕ
+  rest = drop (place + 1) v
 
-      next_found : (n : ℕ) → width ≤ most_width → n ≡ min 4 (significant width) → n + 4 ≤ length v - (place + 1) → NextRow v place answer
-      next_found n least is h =
-          let clear = whole_clear v place a b n least is h in
-          rw (← here_route place _ _ _ (from_route v place a b clear))
-          (record {
-            row = route_row_of width rest;
-            more = _;
-            rows = from_rows v place a b;
-            number = sym (none_first clear);
-            clear = λ z. clear;
-            is = λ z. refl;
-            on = λ z. whole_rows v place a b n least is h
-                ∙ ap (λ (k : ℕ). route_rows (drop k v)) (sym (whole_to v place a b n least is h));
-            far = λ z. (omega (arith, whole_to v place a b n least is h), omega (arith, whole_to v place a b n least is h));
-          })
+  -- by an answer that the definition gives
+  by_answer : (a b : Result (Option Row) Refusal) → told_by there a ≡ route_from v place → route_from v place ≡ told_by there b
+      → Ahead v place b → Ahead v place a
+  by_answer a b e f h = subst (Ahead v place) (sym (row_one a b (e ∙ f))) h
 
-      next_row : NextRow v place answer
-      next_row = go (dec_le width most_width) (dec_le (min 4 (significant width) + 4) (length v - (place + 1)))
+  module _ (a : Result (Option Row) Refusal) (e : told_by there a ≡ route_from v place) where
+    at_end : place ≡ length v → Ahead v place a
+    at_end h =
+        by_answer a (Ok None) e (from_end v place short h)
+        (ends (ap route_rows (drop_of_length-le v {i = place} (omega arith)) ∙ rows_none))
+
+    module _ (within : place < length v) where
+      at_refused : (k : ℕ) (f : Refusal) → says {A = RouteThere} f ≡ refused k → says {A = ℕ} f ≡ refused k → Refuses (row_checks width rest) k
+          → Ahead v place a
+      at_refused k f s t r =
+          by_answer a (Err f) e (from_refused v place short within k r ∙ sym s)
+          (stops (route_row_of width rest) (route_rows (drop (behind_width width) rest)) (from_rows v place short within) k r t)
+
+      at_route : (n : ℕ) → width ≤ most_width → n ≡ min 4 (significant width) → n + 4 ≤ length v - (place + 1) → Ahead v place a
+      at_route n least is h =
+          let clear = whole_clear v place short within n least is h in
+          let to = whole_to v place short within n least is h in
+          let next : Row = record { route = route_back (route_in width rest); place = place + (1 + behind_width width) } in
+          by_answer a (Ok (Some next)) e (from_route v place short within clear)
+          (goes (route_row_of width rest)
+          (from_rows v place short within
+          ∙ ap (λ (rs : List RouteRow). route_row_of width rest ∷ rs)
+          (whole_rows v place short within n least is h ∙ ap (λ (k : ℕ). route_rows (drop k v)) (sym to)))
+          clear refl (omega arith) (omega (arith, to)))
+
+      at_row : Ahead v place a
+      at_row = go (dec_le width most_width) (dec_le (min 4 (significant width) + 4) (length v - (place + 1)))
         where
-          go : Dec (width ≤ most_width) → Dec (min 4 (significant width) + 4 ≤ length v - (place + 1)) → NextRow v place answer
-          go (yes least) (yes h) = next_found (min 4 (significant width)) least refl h
-          go (yes least) (no h) = next_refused 10 (lit< tt) (cut_10 v place a b (min 4 (significant width)) least refl (omega arith))
-          go (no wide) h = next_refused 12 (lit< tt) (row_12 width rest (omega arith))
+          go : Dec (width ≤ most_width) → Dec (min 4 (significant width) + 4 ≤ length v - (place + 1)) → Ahead v place a
+          go (yes least) (yes h) = at_route (min 4 (significant width)) least refl h
+          go (yes least) (no h) =
+              at_refused 10 WrongLength refl refl (cut_10 v place short within (min 4 (significant width)) least refl (omega arith))
+          go (no wide) h = at_refused 12 WidthAbove32 refl refl (row_12 width rest (omega arith))
 
--- the same of an answer that code has
-pub next_of : (v : List ℕ) (at : ℕ) (row : ReadRoute) → length v ≤ 65535 → at < length v → row ≡ route_here at (route_from v at)
-    → NextRow v at row
-next_of v at row short h e = rw e (next_row v at short h)
+    pub ahead : place ≤ length v → Ahead v place a
+    ahead h = go (dec_le (length v) place)
+      where
+        go : Dec (length v ≤ place) → Ahead v place a
+        go (yes g) = at_end (omega arith)
+        go (no g) = at_row (omega arith)

@@ -1,203 +1,161 @@
--- A scan over all rows of a value: one row more; and what it says of all of them, as the reader does.
+-- A scan over all rows of a value: the rows that were seen, one more, and what the reader says of all.
 -- Assumes nothing.
 use mathlib.Core.Path.{◌≡◌, refl, sym, ap, ◌∙◌}
-use Prim.Native.Nat.{ℕ, suc, zero, ◌+◌, ◌≤◌, ◌<◌}
-use mathlib.Core.Bool.{cond}
-use mathlib.Core.List.{List, [], ◌∷◌, foldl}
-use native.Mathlib.Nat.{add-zero, zero-add}
+use Prim.Native.Nat.{ℕ, zero, suc, ◌+◌, ◌≤◌, ◌<◌}
+use mathlib.Core.List.{List, [], ◌∷◌, ◌++◌, append_assoc}
 use native.Mathlib.Omega.{arith}
 use native.Mathlib.Decide.{dec_le}
-use borrow.Author.Tests.{lt-ltb, le-ltb, eq-eqb, ne_eqb}
-use lib.Dec.{eqb}
-use lib.ListN.{length, drop}
-use Rattle.facts.specs.Each.{Each}
-use Rattle.rfc.specs.Numbers.{Answer, given, refused, most_bytes, first_refusal}
-use Rattle.rfc.specs.Routes.{Route}
-use Rattle.rfc.specs.Classless.{RouteRow, route_rows, all_row_checks, all_routes, read_routes, nth, route_at}
-use Rattle.rfc.proofs.Numbers.{Refuses, Clear, done, refuses_front, refuses_behind, clear_both, is_first, is_none, Numbered, long, not_long, given_no}
-use Rattle.rfc.proofs.Classless.{row_none_checks, row-checks, row_none_routes, row_routes, rows_numbered, read_2, read_refused, read_given, nth_4, nth_first, nth_later, nth_is, at_refused, at_given}
-use Rattle.classless.specs.Rows.{none_at, found_to, count_here, index_here, seen_so, stopped_by, seen, scanned}
-use Rattle.classless.specs.declared.ReadRoute.{ReadRoute}
+use lib.ListN.{length, drop, length-append}
+use Rattle.std.proofs.lemmas.List.{append-nil}
+use Rattle.std.specs.Prelude.{Option, Some, None, ok_or, Ok, Err}
+use Rattle.rfc.specs.Numbers.{given, refused, most_bytes}
+use Rattle.rfc.specs.Routes as rfc
+use Rattle.rfc.specs.Classless.{RouteRow, route_rows, all_row_checks, all_routes, read_routes, nth, route_from}
+use Rattle.rfc.proofs.Numbers.{Clear, done, refuses_front, refuses_behind, clear_both, given_goes_on, refused_stands}
+use Rattle.rfc.proofs.Classless.{from_2, row_none_checks, row-checks, row_none_routes, row_routes, read_2, read_refused, read_given, nth_4, nth_first, nth_later, at_refused, at_given}
+use Rattle.refusal.specs.declared.Refusal.{Refusal}
+use Rattle.refusal.specs.declared.Refusal.TheVariants.{PastEnd}
+use Rattle.refusal.specs.Told.{says}
+use Rattle.classless.specs.Rows.{told_by, route_of, there, how_many, Scanned}
+use Rattle.classless.specs.declared.Route.{Route}
+use Rattle.classless.specs.declared.Row.{Row}
 use Rattle.classless.specs.declared.Scan.{Scan}
-use Rattle.classless.proofs.Rows.{NextRow}
+use Rattle.classless.proofs.Rows.{says_same, short_given, Ahead, ends, stops, goes, ahead}
 
--- the row that is kept, if it is the one at the index
-abbrev pub kept_of : ℕ → ℕ → Route → ReadRoute → ReadRoute
-kept_of index count r kept = cond (eqb count index) (found_to r 0) kept
+-- rows behind others
+checks_both : (xs ys : List RouteRow) → all_row_checks (xs ++ ys) ≡ all_row_checks xs ++ all_row_checks ys
+checks_both [] ys = ap (λ l. l ++ all_row_checks ys) (sym row_none_checks)
+checks_both (x ∷ xs) ys =
+    row-checks x (xs ++ ys) ∙ ap (λ l. x.checks ++ l) (checks_both xs ys)
+    ∙ sym (append_assoc x.checks (all_row_checks xs) (all_row_checks ys))
+    ∙ ap (λ l. l ++ all_row_checks ys) (sym (row-checks x xs))
 
--- one row
-module _ (index : ℕ) (s : Scan) (r : RouteRow) where
-  seen_stopped : 0 < s.refused → seen index s r ≡ s
-  unfolding seen
-  seen_stopped h = rw (lt-ltb 0 s.refused h)
+routes_both : (xs ys : List RouteRow) → all_routes (xs ++ ys) ≡ all_routes xs ++ all_routes ys
+routes_both [] ys = ap (λ l. l ++ all_routes ys) (sym row_none_routes)
+routes_both (x ∷ xs) ys =
+    row_routes x (xs ++ ys) ∙ ap (λ l. x.route ∷ l) (routes_both xs ys) ∙ ap (λ l. l ++ all_routes ys) (sym (row_routes x xs))
 
-  seen_refused : s.refused ≤ 0 → 0 < first_refusal r.checks → seen index s r ≡ stopped_by (first_refusal r.checks)
-  unfolding seen
-  seen_refused h g = rw (le-ltb 0 s.refused h, lt-ltb 0 (first_refusal r.checks) g)
+one_checks : (r : RouteRow) → Clear r.checks → Clear (all_row_checks (r ∷ []))
+one_checks r c = rw (row-checks r [], row_none_checks) (clear_both c done)
 
-  seen_more : s.refused ≤ 0 → first_refusal r.checks ≤ 0
-      → seen index s r ≡ seen_so (s.count + 1) (kept_of index s.count r.route s.row)
-  unfolding seen
-  seen_more h g = rw (le-ltb 0 s.refused h, le-ltb 0 (first_refusal r.checks) g)
+one_route : (r : RouteRow) → all_routes (r ∷ []) ≡ r.route ∷ []
+one_route r = row_routes r [] ∙ ap (λ l. r.route ∷ l) row_none_routes
 
-all_stopped : (index : ℕ) (rs : List RouteRow) (s : Scan) → 0 < s.refused → foldl (seen index) s rs ≡ s
-all_stopped index [] s h = refl
-all_stopped index (r ∷ rs) s h = ap (λ (x : Scan). foldl (seen index) x rs) (seen_stopped index s r h) ∙ all_stopped index rs s h
+-- the route at an index, with one more at the end
+nth_here : (rs : List rfc.Route) (r : rfc.Route) → nth (length rs) (rs ++ r ∷ []) ≡ given r
+nth_here [] r = nth_first r []
+nth_here (x ∷ rs) r = nth_later (length rs) x (rs ++ r ∷ []) ∙ nth_here rs r
 
--- a scan of a value, from its first row on
+nth_other : (index : ℕ) (rs : List rfc.Route) (r : rfc.Route) → (length rs ≡ index → ⊥) → nth index (rs ++ r ∷ []) ≡ nth index rs
+nth_other zero [] r h = absurd (h refl)
+nth_other (suc index) [] r h = nth_later index r [] ∙ nth_4 index [] (omega arith) ∙ sym (nth_4 (suc index) [] (omega arith))
+nth_other zero (x ∷ rs) r h = nth_first x (rs ++ r ∷ []) ∙ sym (nth_first x rs)
+nth_other (suc index) (x ∷ rs) r h =
+    nth_later index x (rs ++ r ∷ []) ∙ nth_other index rs r (λ e. h (ap suc e)) ∙ sym (nth_later index x rs)
+
+-- the rows up to a place were seen: none of them is refused, they are so many, and of their routes the one at the index is kept
+pub record Seen (index : ℕ) (v : List ℕ) (at : ℕ) (s : Scan) : Type 0 where
+  pub before : List RouteRow
+  pub all : route_rows v ≡ before ++ route_rows (drop at v)
+  pub clear : Clear (all_row_checks before)
+  pub count : s.count ≡ length (all_routes before)
+  pub route : told_by route_of (ok_or s.route PastEnd) ≡ nth index (all_routes before)
+
 module _ (index : ℕ) (v : List ℕ) where
-  pub scanned_2 : most_bytes < length v → stopped_by 2 ≡ scanned index v
-  unfolding scanned
-  scanned_2 h = rw (long v h)
+  pub seen_none : Seen index v 0 (record { count = 0; route = None })
+  seen_none =
+      record {
+        before = [];
+        all = refl;
+        clear = rw row_none_checks done;
+        count = ap length (sym row_none_routes);
+        route = sym (ap (nth index) row_none_routes ∙ nth_4 index [] (omega arith));
+      }
 
-  pub scanned_rows : length v ≤ most_bytes → foldl (seen index) (seen_so 0 (none_at 0 0)) (route_rows v) ≡ scanned index v
-  unfolding scanned
-  scanned_rows h = rw (not_long v h)
+  module _ (at : ℕ) (s : Scan) (seen : Seen index v at s) where
+    -- one row more
+    module _ (row : RouteRow) (next : Row) (rows : route_rows (drop at v) ≡ row ∷ route_rows (drop next.place v)) (c : Clear row.checks)
+        (r : row.route ≡ route_of next.route) where
+      abbrev now : List RouteRow
+      now = seen.before ++ row ∷ []
 
--- what the next row makes of it
-module _ (index count : ℕ) (kept : ReadRoute) (v : List ℕ) (at : ℕ) (answer : ReadRoute) (next : NextRow v at answer) where
-  abbrev onward : Scan → Scan
-  onward s = foldl (seen index) s next.more
+      now_routes : all_routes now ≡ all_routes seen.before ++ route_of next.route ∷ []
+      now_routes =
+          routes_both seen.before (row ∷ []) ∙ ap (λ l. all_routes seen.before ++ l) (one_route row)
+          ∙ ap (λ (x : rfc.Route). all_routes seen.before ++ x ∷ []) r
 
-  from_here : foldl (seen index) (seen_so count kept) (route_rows (drop at v)) ≡ onward (seen index (seen_so count kept) next.row)
-  from_here = ap (foldl (seen index) (seen_so count kept)) next.rows
+      more : (route : Option Route) → told_by route_of (ok_or route PastEnd) ≡ nth index (all_routes seen.before ++ route_of next.route ∷ [])
+          → Seen index v next.place (record { count = s.count + 1; route = route })
+      more route e =
+          record {
+            before = now;
+            all = seen.all ∙ ap (λ l. seen.before ++ l) rows ∙ sym (append_assoc seen.before (row ∷ []) (route_rows (drop next.place v)));
+            clear = rw (checks_both seen.before (row ∷ [])) (clear_both seen.clear (one_checks row c));
+            count = omega (arith, seen.count, ap length now_routes, length-append (all_routes seen.before) (route_of next.route ∷ []));
+            route = e ∙ ap (nth index) (sym now_routes);
+          }
 
-  pub scan_stops : 0 < answer.refused → stopped_by answer.refused ≡ foldl (seen index) (seen_so count kept) (route_rows (drop at v))
-  scan_stops h =
-      let g : 0 < first_refusal next.row.checks = omega (arith, next.number) in
-      sym (from_here
-      ∙ ap onward (seen_refused index (seen_so count kept) next.row (omega arith) g ∙ ap stopped_by (sym next.number))
-      ∙ all_stopped index next.more (stopped_by answer.refused) h)
+      pub seen_here : s.count ≡ index → Seen index v next.place (record { count = s.count + 1; route = Some next.route })
+      seen_here h =
+          more (Some next.route)
+          (sym (ap (λ (k : ℕ). nth k (all_routes seen.before ++ route_of next.route ∷ [])) (sym h ∙ seen.count)
+          ∙ nth_here (all_routes seen.before) (route_of next.route)))
 
-  pub scan_goes : answer.refused ≤ 0 → (kept' : ReadRoute) → kept' ≡ kept_of index count next.row.route kept
-      → foldl (seen index) (seen_so (count + 1) kept') (route_rows (drop answer.place v))
-      ≡ foldl (seen index) (seen_so count kept) (route_rows (drop at v))
-  scan_goes h kept' e =
-      let g : first_refusal next.row.checks ≤ 0 = omega (arith, next.number) in
-      (λ i. foldl (seen index) (seen_so (count + 1) (e i)) (sym (next.on h) i))
-      ∙ sym (from_here ∙ ap onward (seen_more index (seen_so count kept) next.row (omega arith) g))
+      pub seen_other : (s.count ≡ index → ⊥) → Seen index v next.place (record { count = s.count + 1; route = s.route })
+      seen_other h =
+          more s.route (seen.route ∙ sym (nth_other index (all_routes seen.before) (route_of next.route) (λ e. h (seen.count ∙ e))))
 
--- all rows: one is refused; or none is, and the scan has their count and the route at the index
-pub data Scans (index : ℕ) (rs : List RouteRow) (count : ℕ) (kept : ReadRoute) (e : Scan) : Type 0 where
-  bad : (k : ℕ) → 0 < k → Refuses (all_row_checks rs) k → e ≡ stopped_by k → Scans index rs count kept e
-  good : Clear (all_row_checks rs) → (row : ReadRoute) → e ≡ seen_so (count + length (all_routes rs)) row
-      → ((j : ℕ) → index ≡ count + j → (r : Route) → nth j (all_routes rs) ≡ given r → row ≡ found_to r 0)
-      → (index < count → row ≡ kept) → Scans index rs count kept e
+    -- what is answered there: nothing more
+    module _ (within : at ≤ length v) where
+      pub seen_ends : told_by there (Ok None) ≡ route_from v at → Scanned index v (Ok s)
+      unfolding how_many
+      seen_ends e = go short (ahead v at short (Ok None) e within)
+        where
+          short : length v ≤ most_bytes
+          short = short_given v at None e
 
-given_is : {A : Type 0} {a b : A} → given a ≡ given b → a ≡ b
-given_is e = cc
+          go : length v ≤ most_bytes → Ahead v at (Ok None) → Scanned index v (Ok s)
+          go short (ends rows) =
+              let none : route_rows v ≡ seen.before = seen.all ∙ ap (λ l. seen.before ++ l) rows ∙ append-nil seen.before in
+              let read : read_routes v ≡ given (all_routes seen.before) =
+              read_given v short (rw none seen.clear) ∙ ap (λ (rs : List RouteRow). given (all_routes rs)) none in
+              record {
+                count = ap given seen.count ∙ sym (ap how_many read ∙ given_goes_on (λ (rs : List rfc.Route). given (length rs)) _);
+                route = seen.route ∙ sym (at_given index v _ read);
+              }
 
--- the row at the index is kept, and no other
-module _ (index count : ℕ) (r : Route) (kept : ReadRoute) where
-  pub kept_here : count ≡ index → kept_of index count r kept ≡ found_to r 0
-  kept_here e = rw (eq-eqb count index e)
+      -- a refusal
+      refused_scan : (e : Refusal) (k : ℕ) → says {A = ℕ} e ≡ refused k → read_routes v ≡ refused k → Scanned index v (Err e)
+      unfolding how_many
+      refused_scan e k t r =
+          record {
+            count = t ∙ sym (ap how_many r ∙ refused_stands (λ (rs : List rfc.Route). given (length rs)) k);
+            route = says_same e k t ∙ sym (at_refused index k v r);
+          }
 
-  pub kept_other : (count ≡ index → ⊥) → kept_of index count r kept ≡ kept
-  kept_other other = rw (ne_eqb count index other)
+      pub seen_stops : (e : Refusal) → told_by there (Err e) ≡ route_from v at → Scanned index v (Err e)
+      seen_stops e f = by_length (dec_le (length v) most_bytes)
+        where
+          go : length v ≤ most_bytes → Ahead v at (Err e) → Scanned index v (Err e)
+          go short (stops row rest rows k r t) =
+              refused_scan e k t
+              (read_refused v short k
+              (rw (seen.all ∙ ap (λ l. seen.before ++ l) rows, checks_both seen.before (row ∷ rest), row-checks row rest)
+              (refuses_behind seen.clear (refuses_front (all_row_checks rest) r))))
 
-module _ (index : ℕ) where
-  abbrev Told : List RouteRow → Type 0
-  Told rs = (count : ℕ) (kept : ReadRoute) → Scans index rs count kept (foldl (seen index) (seen_so count kept) rs)
+          by_length : Dec (length v ≤ most_bytes) → Scanned index v (Err e)
+          by_length (yes short) = go short (ahead v at short (Err e) f within)
+          by_length (no long) =
+              refused_scan e 2 (says_same e 2 (f ∙ from_2 v at (omega arith))) (read_2 v (omega arith))
 
-  -- one row more, in front
-  module _ (r : RouteRow) (rs : List RouteRow) (count : ℕ) (kept : ReadRoute) where
-    abbrev kept' : ReadRoute
-    kept' = kept_of index count r.route kept
-
-    at_index : (row : ReadRoute) → ((j : ℕ) → index ≡ count + 1 + j → (x : Route) → nth j (all_routes rs) ≡ given x → row ≡ found_to x 0)
-        → (index < count + 1 → row ≡ kept')
-        → (j : ℕ) → index ≡ count + j → (x : Route) → nth j (r.route ∷ all_routes rs) ≡ given x → row ≡ found_to x 0
-    at_index row there stays zero e x is =
-        let same : r.route ≡ x = given_is (sym (nth_first r.route (all_routes rs)) ∙ is) in
-        stays (omega arith) ∙ kept_here index count r.route kept (omega arith) ∙ ap (λ (y : Route). found_to y 0) same
-    at_index row there stays (suc j) e x is = there j (omega arith) x (sym (nth_later j r.route (all_routes rs)) ∙ is)
-
-    in-front : Clear r.checks → (e : Scan) → Scans index rs (count + 1) kept' e → Scans index (r ∷ rs) count kept e
-    in-front clear e (bad k some x is) = bad k some (rw (row-checks r rs) (refuses_behind clear x)) is
-    in-front clear e (good c row is there stays) =
-        let n : count + 1 + length (all_routes rs) ≡ count + length (r.route ∷ all_routes rs) = omega arith in
-        good (rw (row-checks r rs) (clear_both clear c)) row
-        (is ∙ ap (λ (k : ℕ). seen_so k row) (n ∙ ap (λ (l : List Route). count + length l) (sym (row_routes r rs))))
-        (λ j e' x is'. at_index row there stays j e' x (ap (nth j) (sym (row_routes r rs)) ∙ is'))
-        (λ h. stays (omega arith) ∙ kept_other index count r.route kept (λ e'. omega arith))
-
-    by_row : Numbered r.checks → Told rs → Dec (first_refusal r.checks ≤ 0)
-        → Scans index (r ∷ rs) count kept (foldl (seen index) (seen_so count kept) (r ∷ rs))
-    by_row numbered told (yes h) =
-        rw (seen_more index (seen_so count kept) r (omega arith) h)
-        (in-front (is_none r.checks numbered refl h) _ (told (count + 1) kept'))
-    by_row numbered told (no h) =
-        let k : ℕ = first_refusal r.checks in
-        bad k (omega arith) (rw (row-checks r rs) (refuses_front (all_row_checks rs) (is_first r.checks refl (omega arith))))
-        (ap (λ (x : Scan). foldl (seen index) x rs) (seen_refused index (seen_so count kept) r (omega arith) (omega arith))
-        ∙ all_stopped index rs (stopped_by k) (omega arith))
-
-  pub all_seen : (rs : List RouteRow) → Each (λ (r : RouteRow). Numbered r.checks) rs → Told rs
-  all_seen [] numbered count kept =
-      good (rw row_none_checks done) kept (rw row_none_routes (ap (λ (k : ℕ). seen_so k kept) (sym (add-zero count))))
-      (λ j e x is. absurd (given_no x 4 (sym is ∙ ap (nth j) row_none_routes ∙ nth_4 j [] (omega arith)))) (λ h. refl)
-  all_seen (r ∷ rs) numbered count kept =
-      by_row r rs count kept numbered.0 (all_seen rs numbered.1) (dec_le (first_refusal r.checks) 0)
-
--- so the scan of a value says what the reader says
-module _ (index : ℕ) (v : List ℕ) (s : Scan) (e : s ≡ scanned index v) where
-  -- by its length, then by its rows
-  by_value : (P : Scan → Type 0) → (most_bytes < length v → P (stopped_by 2))
-      → (length v ≤ most_bytes → Scans index (route_rows v) 0 (none_at 0 0) s → P s) → P s
-  by_value P none rows = go (dec_le (length v) most_bytes)
-    where
-      go : Dec (length v ≤ most_bytes) → P s
-      go (yes h) = rows h (rw (e ∙ sym (scanned_rows index v h)) (all_seen index (route_rows v) (rows_numbered v) 0 (none_at 0 0)))
-      go (no h) = rw (e ∙ sym (scanned_2 index v (omega arith))) (none (omega arith))
-
-  -- how many routes there are
-  pub count_is : record { refused = s.refused; count = s.count } ≡ count_here (read_routes v)
-  unfolding count_here
-  count_is = by_value (λ x. record { refused = x.refused; count = x.count } ≡ count_here (read_routes v)) (λ h. rw (read_2 v h)) by_rows
-    where
-      by_rows : length v ≤ most_bytes → Scans index (route_rows v) 0 (none_at 0 0) s
-          → record { refused = s.refused; count = s.count } ≡ count_here (read_routes v)
-      by_rows h (bad k some r is) = rw (is, read_refused v h k r)
-      by_rows h (good c row is there stays) = rw (is, read_given v h c) (ap (λ (k : ℕ). record { refused = 0; count = k }) (zero-add _))
-
-  -- the route at the index: a refusal, 4, or the row that was kept
-  abbrev found : ReadRoute
-  found = index_here (route_at index v)
-
-  refused_is : (k : ℕ) → read_routes v ≡ refused k → none_at k 0 ≡ found
-  unfolding index_here
-  refused_is k h = rw (at_refused index k v h)
-
-  given_is_at : (rs : List Route) (x : Answer Route) → read_routes v ≡ given rs → nth index rs ≡ x → index_here x ≡ found
-  given_is_at rs x h g = rw (at_given index v rs h, g)
-
-  pub index_refused : 0 < s.refused → none_at s.refused 0 ≡ found
-  index_refused = by_value (λ x. 0 < x.refused → none_at x.refused 0 ≡ found) (λ h g. refused_is 2 (read_2 v h)) by_rows
-    where
-      by_rows : length v ≤ most_bytes → Scans index (route_rows v) 0 (none_at 0 0) s → 0 < s.refused → none_at s.refused 0 ≡ found
-      by_rows h (bad k some r is) g = rw is (refused_is k (read_refused v h k r))
-      by_rows h (good c row is there stays) g = absurd (omega (arith, ap (λ (x : Scan). x.refused) is))
-
-  pub index_past : s.refused ≤ 0 → s.count ≤ index → none_at 4 0 ≡ found
-  unfolding index_here
-  index_past =
-      by_value (λ x. x.refused ≤ 0 → x.count ≤ index → none_at 4 0 ≡ found) (λ h g f. absurd (omega arith)) by_rows
-    where
-      by_rows : length v ≤ most_bytes → Scans index (route_rows v) 0 (none_at 0 0) s → s.refused ≤ 0 → s.count ≤ index → none_at 4 0 ≡ found
-      by_rows h (bad k some r is) g f = absurd (omega (arith, ap (λ (x : Scan). x.refused) is))
-      by_rows h (good c row is there stays) g f =
-          given_is_at (all_routes (route_rows v)) (refused 4) (read_given v h c)
-          (nth_4 index (all_routes (route_rows v)) (omega (arith, ap (λ (x : Scan). x.count) is)))
-
-  pub index_row : s.refused ≤ 0 → index < s.count → s.row ≡ found
-  unfolding index_here
-  index_row = by_value (λ x. x.refused ≤ 0 → index < x.count → x.row ≡ found) (λ h g f. absurd (omega arith)) by_rows
-    where
-      by_rows : length v ≤ most_bytes → Scans index (route_rows v) 0 (none_at 0 0) s → s.refused ≤ 0 → index < s.count → s.row ≡ found
-      by_rows h (bad k some r is) g f = absurd (omega (arith, ap (λ (x : Scan). x.refused) is))
-      by_rows h (good c row is there stays) g f =
-          let rs : List Route = all_routes (route_rows v) in
-          let x = nth_is index rs (omega (arith, ap (λ (y : Scan). y.count) is)) in
-          ap (λ (y : Scan). y.row) is
-          ∙ there index (sym (zero-add index)) x.0 x.1
-          ∙ given_is_at rs (given x.0) (read_given v h c) x.1
+      -- a row
+      pub seen_goes : (next : Row) → told_by there (Ok (Some next)) ≡ route_from v at
+          → (at < next.place) × (next.place ≤ length v)
+          × (s.count ≡ index → Seen index v next.place (record { count = s.count + 1; route = Some next.route }))
+          × ((s.count ≡ index → ⊥) → Seen index v next.place (record { count = s.count + 1; route = s.route }))
+      seen_goes next e = go (ahead v at (short_given v at (Some next) e) (Ok (Some next)) e within)
+        where
+          go : Ahead v at (Ok (Some next)) → (at < next.place) × (next.place ≤ length v)
+              × (s.count ≡ index → Seen index v next.place (record { count = s.count + 1; route = Some next.route }))
+              × ((s.count ≡ index → ⊥) → Seen index v next.place (record { count = s.count + 1; route = s.route }))
+          go (goes row rows c r on to) = (on, to, seen_here row next rows c r, seen_other row next rows c r)

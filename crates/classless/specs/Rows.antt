@@ -1,56 +1,40 @@
--- The reader's answers as plain numbers, and what a scan over all rows sees.
+-- What the reader of this crate answers, in the words of the definitions.
 -- Assumes nothing.
-use Rattle.std.specs.Prelude.{ℕ, ◌+◌, true, false, cond, eqb, ltb, length}
-use mathlib.Core.List.{List, foldl}
-use Rattle.rfc.specs.Numbers.{Answer, given, refused, needs, first_refusal, too_long}
-use Rattle.rfc.specs.Routes.{Route}
-use Rattle.rfc.specs.Classless.{RouteRow, route_rows, RouteThere, no_route, route}
-use Rattle.classless.specs.declared.ReadRoute.{ReadRoute}
-use Rattle.classless.specs.declared.RouteCount.{RouteCount}
+use Rattle.std.specs.Prelude.{ℕ, ◌≡◌, List, length, Option, Some, None, ok_or, Result, Ok, Err}
+use Rattle.rfc.specs.Numbers.{Answer, given, and_then}
+use Rattle.rfc.specs.Routes as rfc
+use Rattle.rfc.specs.Classless.{RouteThere, no_route, route, read_routes, route_at}
+use Rattle.refusal.specs.declared.Refusal.{Refusal}
+use Rattle.refusal.specs.declared.Refusal.TheVariants.{PastEnd}
+use Rattle.refusal.specs.Told.{says}
+use Rattle.classless.specs.declared.Route.{Route}
+use Rattle.classless.specs.declared.Row.{Row}
 use Rattle.classless.specs.declared.Scan.{Scan}
 
--- no route at a place: there is none, or it is refused
-abbrev pub none_at : ℕ → ℕ → ReadRoute
-none_at number place = record { refused = number; found = false; width = 0; destination = 0; gateway = 0; place = place }
+-- what is told of an answer, with what was given in other words
+abbrev pub told_by : {A B : Type 0} → (A → B) → Result A Refusal → Answer B
+told_by f (Ok x) = given (f x)
+told_by f (Err e) = says e
 
--- a route that ends before a place
-abbrev pub found_to : Route → ℕ → ReadRoute
-found_to r place =
-    record { refused = 0; found = true; width = r.width; destination = r.destination; gateway = r.gateway; place = place }
+-- a route of the code as one of the definitions
+abbrev pub route_of : Route → rfc.Route
+route_of r = record { width = r.width; destination = r.destination; gateway = r.gateway }
 
 -- what begins at a place
-unfoldable pub route_here : ℕ → Answer RouteThere → ReadRoute
-route_here place (given no_route) = none_at 0 place
-route_here place (given (route r to)) = found_to r to
-route_here place (refused number) = none_at number place
-route_here place (needs len) = none_at 5 place
+abbrev pub there : Option Row → RouteThere
+there None = no_route
+there (Some row) = route (route_of row.route) row.place
 
 -- how many routes there are
-unfoldable pub count_here : Answer (List Route) → RouteCount
-count_here (given rs) = record { refused = 0; count = length rs }
-count_here (refused number) = record { refused = number; count = 0 }
-count_here (needs len) = record { refused = 5; count = 0 }
+unfoldable pub how_many : Answer (List rfc.Route) → Answer ℕ
+how_many routes = and_then routes (λ (rs : List rfc.Route). given (length rs))
 
--- the route at an index
-unfoldable pub index_here : Answer Route → ReadRoute
-index_here (given r) = found_to r 0
-index_here (refused number) = none_at number 0
-index_here (needs len) = none_at 5 0
+-- the route that a scan has kept; 4: there is none at the index
+abbrev pub kept : Result Scan Refusal → Result Route Refusal
+kept (Ok s) = ok_or s.route PastEnd
+kept (Err e) = Err e
 
--- a scan that has seen so many rows, and one that has stopped
-abbrev pub seen_so : ℕ → ReadRoute → Scan
-seen_so count row = record { refused = 0; count = count; row = row }
-
-abbrev pub stopped_by : ℕ → Scan
-stopped_by number = record { refused = number; count = 0; row = none_at 0 0 }
-
--- one row more: the one at the index is kept; after a refusal nothing is seen
-unfoldable pub seen : ℕ → Scan → RouteRow → Scan
-seen index s r =
-    let number = first_refusal r.checks in
-    cond (ltb 0 s.refused) s
-    (cond (ltb 0 number) (stopped_by number) (seen_so (s.count + 1) (cond (eqb s.count index) (found_to r.route 0) s.row)))
-
--- all rows of a value
-unfoldable pub scanned : ℕ → List ℕ → Scan
-scanned index v = cond (too_long v) (stopped_by 2) (foldl (seen index) (seen_so 0 (none_at 0 0)) (route_rows v))
+-- a scan of a value says what the reader says
+pub record Scanned (index : ℕ) (v : List ℕ) (r : Result Scan Refusal) : Type 0 where
+  pub count : told_by (λ (s : Scan). s.count) r ≡ how_many (read_routes v)
+  pub route : told_by route_of (kept r) ≡ route_at index v

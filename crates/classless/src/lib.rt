@@ -2,15 +2,17 @@
 // a place on or by their index, with the destination masked to its width; and one is put into a value that is being written.
 #![tactic(auto)]
 
-ghost use Rattle.std.specs.Prelude.{◌≡◌, min, ◌≤◌};
+ghost use Rattle.std.specs.Prelude.{◌≡◌, min, ◌≤◌, length};
 ghost use mathlib.Core.List.{foldl};
 ghost use Rattle.rfc.specs.Routes as rfc;
 ghost use Rattle.rfc.specs.Classless as read;
+ghost use Rattle.refusal.specs.Told.{told};
 ghost use Rattle.laying.specs.Passes.{put};
-ghost use Rattle.classless.specs.Rows.{none_at, route_here, count_here, index_here, stopped_by, scanned};
+ghost use Rattle.classless.specs.Rows.{told_by, route_of, there, how_many, Scanned};
 
 use laying::{ADDRESS, Pass};
 use limits::MOST_BYTES;
+use refusal::Refusal;
 
 // The code of classless static routes.
 pub const ROUTES_CODE: u8 = 121;
@@ -18,148 +20,111 @@ pub const ROUTES_CODE: u8 = 121;
 // The most bits of a subnet mask.
 pub const MOST_WIDTH: u8 = 32;
 
-// What begins at a place of a value: a route that was found; or nothing more, or the number of a refusal, where all else is 0 but for the
-// place. That is where the next row begins, behind the route; else it is the one that was given. A route by its index has 0 there.
+// A route: the width of its subnet mask, its destination and its gateway. Programs in other languages lend tables of it.
 #[repr(C)]
 #[derive(Clone, Copy)]
-pub struct ReadRoute {
-    pub refused: u8,
-    pub found: bool,
+pub struct Route {
     pub width: u8,
     pub destination: u32,
     pub gateway: u32,
+}
+
+impl Route {
+    // How many bytes it has, written.
+    #[tactic(auto, using(rfc::proofs::Routes::length_route))]
+    pub fn len(self) -> u16
+        ensures { result ≡ length (rfc.route_bytes (route_of self)) }
+    {
+        (1 + significant(self.width) + ADDRESS) as u16
+    }
+}
+
+// A row that was read: its route, and the place behind it, where the next row begins.
+#[derive(Clone, Copy)]
+pub struct Row {
+    pub route: Route,
     pub place: usize,
 }
 
-// How many routes a value has, or the number of a refusal.
-#[repr(C)]
-#[derive(Drop)]
-pub struct RouteCount {
-    pub refused: u8,
-    pub count: usize,
-}
-
-// What was seen of the rows of a value: a refusal, or how many there are and the one at the index that was looked for.
+// What was seen of the rows of a value: how many there are, and the route at the index that was looked for, if there is one.
 #[derive(Drop)]
 struct Scan {
-    refused: u8,
     count: usize,
-    row: ReadRoute,
+    route: Option<Route>,
 }
 
-// The row that begins at `place`. Behind a width there are four bytes or more, so that the destination is read with what stands behind its
-// significant bytes, which is masked away.
-pub fn route_from(value: &[u8], place: usize) -> ReadRoute
-    ensures { result ≡ route_here place (read.route_from value.now place) }
+// The row that begins at `place`, if the value does not end there. Behind a width there are four bytes or more, so that the destination is
+// read with what stands behind its significant bytes, which is masked away.
+#[tactic(auto, using(rfc::proofs::Classless::from_2, rfc::proofs::Classless::from_4, rfc::proofs::Classless::from_end))]
+pub fn route_from(value: &[u8], place: usize) -> Result<Option<Row>, Refusal>
+    ensures { told_by there result ≡ read.route_from value.now place }
 {
     if value.len() > MOST_BYTES {
-        return no_route(2, place);
+        return Err(Refusal::TooLong);
     }
     if place > value.len() {
-        return no_route(4, place);
+        return Err(Refusal::PastEnd);
     }
     if place == value.len() {
-        return no_route(0, place);
+        return Ok(None);
     }
     let width = value[place];
     if width > MOST_WIDTH {
-        return no_route(12, place);
+        return Err(Refusal::WidthAbove32);
     }
     let at = place + 1;
     let n = significant(width);
     if value.len() - at < n + ADDRESS {
-        return no_route(10, place);
+        return Err(Refusal::WrongLength);
     }
-    ReadRoute {
-        refused: 0,
-        found: true,
+    let route = Route {
         width,
         destination: masked(width, decoder::u32_at(value, at)),
         gateway: decoder::u32_at(value, at + n),
+    };
+    Ok(Some(Row {
+        route,
         place: at + n + ADDRESS,
-    }
+    }))
 }
 
 // How many routes `value` has.
-pub fn count_routes(value: &[u8]) -> RouteCount
-    ensures { result ≡ count_here (read.read_routes value.now) }
+pub fn count_routes(value: &[u8]) -> Result<usize, Refusal>
+    ensures { told result ≡ how_many (read.read_routes value.now) }
 {
-    let scan = scan_rows(value, 0);
-    RouteCount {
-        refused: scan.refused,
-        count: scan.count,
-    }
+    let scan = scan_rows(value, 0)?;
+    Ok(scan.count)
 }
 
 // The route at `index`. All rows are looked at first.
-pub fn route_at(value: &[u8], index: usize) -> ReadRoute
-    ensures { result ≡ index_here (read.route_at index value.now) }
+pub fn route_at(value: &[u8], index: usize) -> Result<Route, Refusal>
+    ensures { told_by route_of result ≡ read.route_at index value.now }
 {
-    let scan = scan_rows(value, index);
-    if scan.refused > 0 {
-        return no_route(scan.refused, 0);
-    }
-    if index >= scan.count {
-        return no_route(4, 0);
-    }
-    scan.row
+    let scan = scan_rows(value, index)?;
+    scan.route.ok_or(Refusal::PastEnd)
 }
 
-// All rows of `value`, counted, and the one at `index` kept.
-fn scan_rows(value: &[u8], index: usize) -> Scan
-    ensures { result ≡ scanned index value.now }
+// All rows of `value`, counted, and the route at `index` kept.
+fn scan_rows(value: &[u8], index: usize) -> Result<Scan, Refusal>
+    ensures { Scanned index value.now result }
 {
-    if value.len() > MOST_BYTES {
-        return stopped(2);
-    }
-    let mut kept = no_route(0, 0);
-    let mut count: usize = 0;
-    let mut at: usize = 0;
-    while at < value.len() {
-        let row = route_from(value, at);
-        if row.refused > 0 {
-            return stopped(row.refused);
+    let mut scan = Scan {
+        count: 0,
+        route: None,
+    };
+    let mut at = 0;
+    while let Some(row) = route_from(value, at)? {
+        if scan.count == index {
+            scan.route = Some(row.route);
         }
-        if count == index {
-            kept = row;
-            kept.place = 0;
-        }
-        count += 1;
+        scan.count += 1;
         at = row.place;
     }
-    Scan {
-        refused: 0,
-        count,
-        row: kept,
-    }
-}
-
-// A value of which a row is refused.
-fn stopped(number: u8) -> Scan
-    ensures { result ≡ stopped_by number }
-{
-    Scan {
-        refused: number,
-        count: 0,
-        row: no_route(0, 0),
-    }
-}
-
-// No route at a place: there is none, or it is refused.
-fn no_route(number: u8, place: usize) -> ReadRoute
-    ensures { result ≡ none_at number place }
-{
-    ReadRoute {
-        refused: number,
-        found: false,
-        width: 0,
-        destination: 0,
-        gateway: 0,
-        place,
-    }
+    Ok(scan)
 }
 
 // An address with the bits behind its first `width` ones put to zero.
+#[tactic(auto, using(rfc::proofs::Classless::masked_none, rfc::proofs::Classless::masked_shift))]
 fn masked(width: u8, address: u32) -> u32
     requires { width ≤ 32 }
     ensures { result ≡ read.masked width address }
@@ -172,22 +137,18 @@ fn masked(width: u8, address: u32) -> u32
 }
 
 // How many bytes of a destination are written.
+#[tactic(auto, using(rfc::proofs::Routes::significant_is))]
 pub fn significant(width: u8) -> usize
     ensures { result ≡ min 4 (rfc.significant width) }
 {
-    if width > MOST_WIDTH {
-        return ADDRESS;
-    }
-    (width as usize + 7) / 8
+    usize::from(width).div_ceil(8).min(ADDRESS)
 }
 
 // Puts the bytes of one route: its width, the significant bytes of its destination, its gateway.
-pub fn put_route(room: &mut [u8], pass: Pass, width: u8, destination: u32, gateway: u32) -> Pass
-    ensures { (result, room.new) ≡ foldl put (pass, room.old)
-        (rfc.route_bytes (record { width = width; destination = destination; gateway = gateway })) }
+pub fn put_route(room: &mut [u8], pass: Pass, route: Route) -> Pass
+    ensures { (result, room.new) ≡ foldl put (pass, room.old) (rfc.route_bytes (route_of route)) }
 {
-    let n = significant(width);
-    let past_width = laying::put_next(room, pass, width);
-    let past_destination = laying::put_address(room, past_width, destination, n);
-    laying::put_address(room, past_destination, gateway, ADDRESS)
+    pass.put_next(room, route.width)
+        .put_address(room, route.destination, significant(route.width))
+        .put_address(room, route.gateway, ADDRESS)
 }

@@ -1,7 +1,8 @@
--- The numbers of the kinds: no two kinds have the same, so the code's `==` on kinds is that of their numbers.
+-- The numbers of the kinds: they are below 16, and no two kinds have the same, so the code's `==` on kinds is that of their numbers.
 -- Assumes nothing.
 use mathlib.Core.Path.{◌≡◌, refl, sym, ◌∙◌}
-use lib.Dec.{eqb}
+use Prim.Native.Nat.{◌<◌}
+use lib.Dec.{eqb, lit<}
 use denote.Enum.Declared.{tag_of}
 use denote.Enum.Bare.{tag_one, sameb}
 use Rattle.kinds.specs.declared.Kind.{Kind}
@@ -26,6 +27,25 @@ number_is_tag NodeType = refl
 number_is_tag MessageType = refl
 number_is_tag ThreeBytes = refl
 number_is_tag Flag = refl
+
+-- they are below 16
+pub number_below : (kind : Kind) → number_of kind < 16
+number_below Raw = lit< tt
+number_below Address = lit< tt
+number_below Addresses = lit< tt
+number_below Pairs = lit< tt
+number_below Byte = lit< tt
+number_below YesNo = lit< tt
+number_below U16 = lit< tt
+number_below U16s = lit< tt
+number_below U32 = lit< tt
+number_below I32 = lit< tt
+number_below Text = lit< tt
+number_below Codes = lit< tt
+number_below NodeType = lit< tt
+number_below MessageType = lit< tt
+number_below ThreeBytes = lit< tt
+number_below Flag = lit< tt
 
 -- a number is that of one kind alone
 pub number_one : (a b : Kind) → number_of a ≡ number_of b → a ≡ b

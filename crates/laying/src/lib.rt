@@ -134,7 +134,7 @@ impl Pass {
     {
         let bytes = address.to_be_bytes();
         let mut pass = self;
-        for byte in &bytes[..parts::next_piece(n, ADDRESS)] {
+        for byte in &bytes[..n.min(ADDRESS)] {
             pass = pass.put_next(room, *byte);
         }
         pass

@@ -5,7 +5,7 @@ use Prim.Native.Nat.{ℕ, ◌/◌}
 use mathlib.Core.Bool.{false}
 use mathlib.Core.List.{List}
 use lib.ListN.{length}
-use Rattle.rfc.specs.Numbers.{Answer, given, refused}
+use Rattle.rfc.specs.Numbers.{Answer, given}
 use Rattle.rfc.specs.Kinds.{size_of}
 use Rattle.rfc.specs.Values as rfc
 use Rattle.rfc.specs.Values.{numbers, numbers_of, plain, wrong_length, value_of, elements}
@@ -24,10 +24,6 @@ use Rattle.values.specs.declared.answer.Value.{Value}
 -- the tests of a yes/no byte: of its kind, and of the byte, where there is one
 pub ruleset yes_no_tests = (same_kind, unwrap_or-slice_get)
 
--- the same answer by another name
-pub same_answer : {v : List ℕ} {a b : Answer rfc.Value} {r : Value} → b ≡ a → Tells v a r → Tells v b r
-same_answer e t = record { told = t.told ∙ sym e; exact = t.exact }
-
 -- a reading, taken apart
 module _ (v : List ℕ) (a : Answer rfc.Value) where
   pub is_value : {reading : Result Value Refusal} {r : Value} → reading ≡ Ok r → ReadAs v a reading → Tells v a r
@@ -38,7 +34,7 @@ module _ (v : List ℕ) (a : Answer rfc.Value) where
 
 module _ {kind : Kind} {v : List ℕ} (right : Right (number_of kind) v) {k : Kind} (is : kind ≡ k) where
   -- a case that says what the kind's value is
-  pub tells : (r : Value) (x : rfc.Value) → says r v ≡ x → value_of (number_of k) v ≡ x → count_of r ≡ length (elements x) → Named r
+  tells : (r : Value) (x : rfc.Value) → says r v ≡ x → value_of (number_of k) v ≡ x → count_of r ≡ length (elements x) → Named r
       → Tells v (given (value_of (number_of kind) v)) r
   tells r x e f count named =
       record {

@@ -1,7 +1,6 @@
 // The rule for a value's length, by its kind, in plain reading and in strict; and the one code that strict reading judges plainly.
-ghost use Rattle.std.specs.Prelude.{◌≡◌, ◌<◌};
-ghost use Rattle.rfc.specs.Kinds.{size_of};
-ghost use Rattle.rfc.specs.Values.{rule_for, wrong_length, length_mode, exactly, at_least, breaks};
+ghost use Rattle.std.specs.Prelude.{◌≡◌};
+ghost use Rattle.rfc.specs.Values.{rule_for, wrong_length, length_mode, breaks};
 ghost use Rattle.kinds.specs.Kind.{number_of};
 ghost use Rattle.values.specs.Reading.{mode_of};
 ghost use Rattle.values.specs.Rules.{rule_says};
@@ -9,7 +8,7 @@ ghost use Rattle.values.specs.Rules.{rule_says};
 use kinds::Kind;
 
 // What a value's length has to be, by the size of an element: a multiple of it, also 0; exactly it; at least it; or one element or more.
-#[derive(Clone, Copy, Debug, PartialEq, Eq)]
+#[derive(Clone, Copy)]
 enum Rule {
     Multiple,
     Exactly,
@@ -61,10 +60,35 @@ pub(crate) fn length_strict(code: u8, strict: bool) -> bool
     strict && code != HOME_AGENTS
 }
 
-// 10: the value's length is wrong for its kind.
+// Whether the value's length breaks the rule for a kind.
 #[tactic(auto, unfolding(rfc::specs::Values::wrong_length))]
-pub(crate) fn wrong_length(kind: Kind, value: &[u8], strict: bool) -> bool
+fn breaks_rule(kind: Kind, value: &[u8], strict: bool) -> bool
     ensures { result ≡ wrong_length (mode_of strict) (number_of kind) value.now }
 {
     Rule::of(kind, strict).is_broken(kind.element_size(), value.len())
+}
+
+// 10: the value's length is wrong for its kind. Each arm names its kind, so that the compiler knows the rule and the size: one call for all
+// kinds looks both up and divides by the size, and a reading then takes twice as long.
+pub(crate) fn wrong_length(kind: Kind, value: &[u8], strict: bool) -> bool
+    ensures { result ≡ wrong_length (mode_of strict) (number_of kind) value.now }
+{
+    match kind {
+        Kind::Raw => breaks_rule(Kind::Raw, value, strict),
+        Kind::Address => breaks_rule(Kind::Address, value, strict),
+        Kind::Addresses => breaks_rule(Kind::Addresses, value, strict),
+        Kind::Pairs => breaks_rule(Kind::Pairs, value, strict),
+        Kind::Byte => breaks_rule(Kind::Byte, value, strict),
+        Kind::YesNo => breaks_rule(Kind::YesNo, value, strict),
+        Kind::U16 => breaks_rule(Kind::U16, value, strict),
+        Kind::U16s => breaks_rule(Kind::U16s, value, strict),
+        Kind::U32 => breaks_rule(Kind::U32, value, strict),
+        Kind::I32 => breaks_rule(Kind::I32, value, strict),
+        Kind::Text => breaks_rule(Kind::Text, value, strict),
+        Kind::Codes => breaks_rule(Kind::Codes, value, strict),
+        Kind::NodeType => breaks_rule(Kind::NodeType, value, strict),
+        Kind::MessageType => breaks_rule(Kind::MessageType, value, strict),
+        Kind::ThreeBytes => breaks_rule(Kind::ThreeBytes, value, strict),
+        Kind::Flag => breaks_rule(Kind::Flag, value, strict),
+    }
 }

@@ -1,50 +1,41 @@
 -- `route_from` meets its contract: a law of the row at a place for each return.
 -- Assumes nothing.
-use mathlib.Core.Path.{ap, ◌∙◌}
-use Prim.Native.Nat.{ℕ, ◌+◌}
-use mathlib.Core.List.{List}
-use lib.ListN.{get_or}
+use mathlib.Core.Path.{sym, ap, ◌∙◌}
+use Prim.Native.Nat.{◌+◌, ◌-◌, ◌≤◌, ◌<◌}
+use lib.ListN.{length, get_or, drop}
 use native.Mathlib.Omega.{arith}
+use Rattle.rfc.specs.Numbers.{given, most_bytes}
+use Rattle.rfc.specs.Routes.{most_width}
 use Rattle.rfc.specs.Classless as read
 use Rattle.rfc.proofs.Bytes.{bytes_known}
-use Rattle.classless.specs.Rows.{found_to}
-use Rattle.classless.proofs.Rows.{row_2, row_4, row_end, row_wide, row_cut, row_found}
+use Rattle.rfc.proofs.Classless.{row_12, from_refused, from_route, cut_10, whole_clear, whole_to, whole_route}
 use Rattle.classless.proofs.route_from.Goals as goal
-
-pub returns-then-value-gt-MOST_BYTES : goal.returns-then-value-gt-MOST_BYTES
-returns-then-value-gt-MOST_BYTES c =
-    let a = c.args in
-    c.no_route.ensures ∙ row_2 a.value.now a.place (omega arith)
-
-pub returns-then-place-value : goal.returns-then-place-value
-returns-then-place-value c =
-    let a = c.args in
-    c.no_route-then-place-value.ensures ∙ row_4 a.value.now a.place (omega arith) (omega arith)
-
-pub returns-then-place-value-2 : goal.returns-then-place-value-2
-returns-then-place-value-2 c =
-    let a = c.args in
-    c.no_route-then-place-value-2.ensures ∙ row_end a.value.now a.place (omega arith) (omega arith)
 
 pub returns-then-width-gt-MOST_WIDTH : goal.returns-then-width-gt-MOST_WIDTH
 returns-then-width-gt-MOST_WIDTH c =
-    let a = c.args in
-    c.no_route-then-width-gt-MOST_WIDTH.ensures ∙ row_wide a.value.now a.place (omega arith) (omega arith) (omega arith)
+    let v = c.args.value.now in
+    let at = c.args.place in
+    sym (from_refused v at (omega arith) (omega arith) 12 (row_12 (get_or v at 0) (drop (at + 1) v) (omega arith)))
 
 pub returns-then-value-at : goal.returns-then-value-at
 returns-then-value-at c =
-    let a = c.args in
-    c.no_route-then-value-at.ensures
-    ∙ row_cut a.value.now a.place (omega arith) (omega arith) _ (omega arith) c.significant-n.ensures (omega arith)
+    let v = c.args.value.now in
+    let at = c.args.place in
+    sym (from_refused v at (omega arith) (omega arith) 10
+    (cut_10 v at (omega arith) (omega arith) c.significant-n.result (omega arith) c.significant-n.ensures (omega arith)))
 
 pub returns : goal.returns
 returns c =
+    let v = c.args.value.now in
+    let at = c.args.place in
     let n = c.significant-n in
-    let a = c.args in
-    let v : List ℕ = a.value.now in
-    let w : ℕ = get_or v a.place 0 in
-    let destination = c.masked.ensures ∙ ap (read.masked w) c.u32_at.ensures in
+    let short : length v ≤ most_bytes = omega arith in
+    let within : at < length v = omega arith in
+    let least : get_or v at 0 ≤ most_width = omega arith in
+    let whole : n.result + 4 ≤ length v - (at + 1) = omega arith in
+    let route = whole_route v at short within n.result least n.ensures whole (bytes_known v (λ i. omega (arith, c.type_inv.value i))) in
+    let destination = c.masked.ensures ∙ ap (read.masked (get_or v at 0)) c.u32_at.ensures in
     let gateway = c.u32_at-2.ensures in
-    (λ i. found_to (record { width = w; destination = destination i; gateway = gateway i }) (a.place + 1 + n.result + 4))
-    ∙ row_found v a.place (omega arith) (omega arith) n.result (omega arith) n.ensures (omega arith)
-    (bytes_known v (λ i. omega (arith, c.shared_slice_known-1.given i)))
+    (λ i. given (read.route (record { width = get_or v at 0; destination = destination i; gateway = gateway i }) (at + 1 + n.result + 4)))
+    ∙ (λ i. given (read.route (sym route i) (sym (whole_to v at short within n.result least n.ensures whole) i)))
+    ∙ sym (from_route v at short within (whole_clear v at short within n.result least n.ensures whole))

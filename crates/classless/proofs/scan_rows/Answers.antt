@@ -1,79 +1,56 @@
--- `scan_rows` meets its contract: the rows from where the loop stands give, from what it has so far, the scan of all.
+-- `scan_rows` goes over the rows of a value: one more was seen, or what the reader says of all.
 -- Assumes nothing.
-use mathlib.Core.Path.{◌≡◌, sym, ap, ◌∙◌}
-use mathlib.Core.List.{[], foldl}
+use mathlib.Core.Path.{◌≡◌, sym, ap, ◌∙◌, subst}
+use Prim.Native.Nat.{◌+◌}
 use native.Mathlib.Omega.{arith}
-use lib.ListN.{drop, drop_of_length-le}
-use Rattle.rfc.specs.Classless.{route_rows}
-use Rattle.rfc.proofs.Classless.{rows_none}
-use Rattle.classless.specs.Rows.{seen_so, seen}
-use Rattle.classless.specs.declared.ReadRoute.{ReadRoute}
-use Rattle.classless.proofs.Rows.{next_of}
-use Rattle.classless.proofs.Scans.{scanned_2, scanned_rows, scan_stops, scan_goes, kept_here, kept_other}
+use Rattle.std.specs.Prelude.{Option, Some}
+use Rattle.std.proofs.lemmas.Result.{err_from_is_err_and}
+use Rattle.rfc.specs.Numbers.{given}
+use Rattle.classless.specs.Rows.{there}
+use Rattle.classless.specs.declared.Row.{Row}
+use Rattle.classless.specs.declared.Scan.{Scan}
+use Rattle.classless.proofs.Scans.{Seen, seen_none, seen_ends, seen_stops, seen_goes}
 use Rattle.classless.proofs.scan_rows.Goals as goal
-use Rattle.classless.proofs.scan_rows.Goals.{then-count-index, else-count-index}
+use Rattle.classless.proofs.scan_rows.Goals.{then-scan-index, else-scan-index}
 
--- a row without its place
-abbrev unplaced : ReadRoute → ReadRoute
-unplaced r =
-    record { refused = r.refused; found = r.found; width = r.width; destination = r.destination; gateway = r.gateway; place = 0 }
+pub loop-row-init : goal.loop-row-init
+loop-row-init c = (omega arith, omega arith, seen_none c.args.index c.args.value.now)
 
-pub returns-then-value-gt-MOST_BYTES : goal.returns-then-value-gt-MOST_BYTES
-returns-then-value-gt-MOST_BYTES c =
-    let a = c.args in
-    c.stopped.ensures ∙ scanned_2 a.index a.value.now (omega arith)
+pub returns-in_err-row : goal.returns-in_err-row
+returns-in_err-row c =
+    let l = c.loop-row in
+    let e = err_from_is_err_and c.from_residual.result c.from_residual.ensures.1 in
+    rw (e.1, e.2) (seen_stops c.args.index c.args.value.now l.at l.scan l.invariant.2 l.invariant.0 c.in_err-row.field-0.0 c.in_err-row.ensures)
 
-pub loop-at-init : goal.loop-at-init
-loop-at-init c =
-    let a = c.args in (
-      omega arith,
-      omega arith,
-      omega arith,
-      ap (λ (row : ReadRoute). foldl (seen a.index) (seen_so 0 row) (route_rows a.value.now)) c.no_route-kept.ensures
-          ∙ scanned_rows a.index a.value.now (omega arith),
-    )
+pub loop-row-smaller : goal.loop-row-smaller
+loop-row-smaller c =
+    let l = c.loop-row in
+    let row : given (there c.in_ok-row.field-0) ≡ given (there (Some c.in-Some.row)) = ap (λ (x : Option Row). given (there x)) c.in-Some.is in
+    let next = seen_goes c.args.index c.args.value.now l.at l.scan l.invariant.2 l.invariant.0 c.in-Some.row (sym row ∙ c.in_ok-row.ensures) in
+    omega (arith, next.0, next.1)
 
-pub returns-then-row-gt0 : goal.returns-then-row-gt0
-returns-then-row-gt0 c =
-    let a = c.args in
-    let l = c.loop-at in
-    let row = c.route_from-row in
-    c.stopped-then-row-gt0.ensures
-    ∙ scan_stops a.index l.count l.kept a.value.now l.at row.result
-    (next_of a.value.now l.at row.result l.invariant.1 (omega arith) row.ensures) (omega arith)
-    ∙ l.invariant.3
-
-pub loop-at-smaller : goal.loop-at-smaller
-loop-at-smaller c =
-    let a = c.args in
-    let l = c.loop-at in
-    let row = c.route_from-row in
-    let far = (next_of a.value.now l.at row.result l.invariant.1 (omega arith) row.ensures).far (omega arith) in
-    omega (arith, far.0, far.1)
-
-pub loop-at-preserved : goal.loop-at-preserved
-loop-at-preserved c =
-    let a = c.args in
-    let l = c.loop-at in
-    let row = c.route_from-row in
-    let n = next_of a.value.now l.at row.result l.invariant.1 (omega arith) row.ensures in
-    let far = n.far (omega arith) in (
-      far.1,
-      l.invariant.1,
-      omega (arith, far.0),
-      scan_goes a.index l.count l.kept a.value.now l.at row.result n (omega arith) c.if-count-index.kept
-          (elim c.if-count-index.branch [
-            | then-count-index w ↦
-                w.kept-is ∙ ap unplaced (n.is (omega arith)) ∙ sym (kept_here a.index l.count n.row.route l.kept w.if-count-index.true)
-            | else-count-index w ↦ w.kept-is ∙ sym (kept_other a.index l.count n.row.route l.kept w.if-count-index.false)
-          ])
-          ∙ l.invariant.3,
+pub loop-row-preserved : goal.loop-row-preserved
+loop-row-preserved c =
+    let l = c.loop-row in
+    let row : given (there c.in_ok-row.field-0) ≡ given (there (Some c.in-Some.row)) = ap (λ (x : Option Row). given (there x)) c.in-Some.is in
+    let next = seen_goes c.args.index c.args.value.now l.at l.scan l.invariant.2 l.invariant.0 c.in-Some.row (sym row ∙ c.in_ok-row.ensures) in
+    let same : c.if-scan-index.scan.count ≡ l.scan.count =
+    elim c.if-scan-index.branch [
+      | then-scan-index w ↦ ap (λ (x : Scan). x.count) w.scan-is
+      | else-scan-index w ↦ ap (λ (x : Scan). x.count) w.scan-is
+    ] in
+    let P : Scan → Type 0 =
+    λ x. Seen c.args.index c.args.value.now c.in-Some.row.place (record { count = x.count + 1; route = x.route }) in (
+      next.1,
+      omega (arith, next.0, same),
+      elim c.if-scan-index.branch [
+        | then-scan-index w ↦ subst P (sym w.scan-is) (next.2 w.if-scan-index.true)
+        | else-scan-index w ↦ subst P (sym w.scan-is) (next.3 w.if-scan-index.false)
+      ],
     )
 
 pub returns : goal.returns
 returns c =
-    let l = c.loop-at in
-    let a = c.args in
-    let none : route_rows (drop l.at a.value.now) ≡ [] =
-    ap route_rows (drop_of_length-le a.value.now {i = l.at} (omega arith)) ∙ rows_none in
-    ap (foldl (seen a.index) (seen_so l.count l.kept)) (sym none) ∙ l.invariant.3
+    let l = c.loop-row in
+    seen_ends c.args.index c.args.value.now l.at l.scan l.invariant.2 l.invariant.0
+    (ap (λ (x : Option Row). given (there x)) (sym c.in_default.is) ∙ c.in_ok-row.ensures)

@@ -1,18 +1,12 @@
--- `scan_rows` meets its contract: the rows from where the loop stands give, from what it has so far, the scan of all.
+-- `scan_rows` goes over the rows of a value: those up to where the loop stands were seen.
 -- Assumes nothing.
-use mathlib.Core.Path.{◌≡◌}
 use Prim.Native.Nat.{◌-◌, ◌≤◌}
-use mathlib.Core.List.{foldl}
-use lib.ListN.{length, drop}
-use Rattle.rfc.specs.Classless.{route_rows}
-use Rattle.classless.specs.Rows.{seen_so, seen, scanned}
+use lib.ListN.{length}
+use Rattle.classless.proofs.Scans.{Seen}
 use Rattle.classless.proofs.scan_rows.Given as goal
 
-abbrev pub invariant-loop-at : goal.invariant-loop-at
-invariant-loop-at l = (l.at ≤ length l.value)
-    × (length l.value ≤ 65535)
-    × (l.count ≤ l.at)
-    × (foldl (seen l.index) (seen_so l.count l.kept) (route_rows (drop l.at l.value)) ≡ scanned l.index l.value)
+abbrev pub invariant-loop-row : goal.invariant-loop-row
+invariant-loop-row l = (l.at ≤ length l.value) × (l.scan.count ≤ l.at) × Seen l.index l.value l.at l.scan
 
-abbrev pub decreases-loop-at : goal.decreases-loop-at
-decreases-loop-at l = length l.value - l.at
+abbrev pub decreases-loop-row : goal.decreases-loop-row
+decreases-loop-row l = length l.value - l.at

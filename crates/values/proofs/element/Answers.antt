@@ -1,6 +1,6 @@
 -- `element` meets its contract: a refused reading stands, and an element is there below the count.
 -- Assumes nothing.
-use mathlib.Core.Path.{sym, ap, ◌∙◌}
+use mathlib.Core.Path.{ap, ◌∙◌}
 use native.Mathlib.Omega.{arith}
 use Rattle.rfc.specs.Numbers.{given}
 use Rattle.rfc.specs.Values as rfc

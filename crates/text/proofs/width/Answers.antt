@@ -1,15 +1,15 @@
--- `width_at` meets its contract: a form of the grammar for each test of the first byte.
+-- `width` meets its contract: a form of the grammar for each test of the first byte.
 -- Assumes nothing.
-use native.Mathlib.Omega.{arith}
+use Rattle.std.proofs.Common.{arith}
 use Rattle.rfc.proofs.Text.{lead_00_7f, lead_80_c1, lead_c2_df, lead_e0, lead_ed, lead_e1_ef, begun}
 use Rattle.text.proofs.Widths.{none_there, one_there}
-use Rattle.text.proofs.width_at.Goals as goal
+use Rattle.text.proofs.width.Goals as goal
 
 pub returns-then-first-lt128 : goal.returns-then-first-lt128
 returns-then-first-lt128 c = one_there (begun (omega arith) (lead_00_7f _ (omega arith)))
 
 pub returns-then-first-lt194 : goal.returns-then-first-lt194
-returns-then-first-lt194 c = none_there (omega arith) (lead_80_c1 _ (omega arith) (omega arith))
+returns-then-first-lt194 c = none_there _ (omega arith) (lead_80_c1 _ (omega arith) (omega arith))
 
 pub two_bytes-requires : goal.two_bytes-requires
 two_bytes-requires c = record { there = omega arith; leads = lead_c2_df _ (omega arith) (omega arith) }
