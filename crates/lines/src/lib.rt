@@ -175,20 +175,19 @@ pub fn put_option(text: &mut [u8], at: usize, code: u8, parts: usize, value: &[u
 fn put_stop(text: &mut [u8], at: usize, stop: Stop, place: usize) -> usize
     ensures { (text.new, result) ≡ adds_all (text.old, at) (stop_line (stop_of stop) place) }
 {
-    let number = put_stop_word(text, at, stop);
-    let end = pen::put_decimal(text, number, place);
+    let end = pen::put_named(text, at, stop_word(stop), place);
     pen::put_word(text, end, b"\n")
 }
 
-// Adds the name of a stop.
-fn put_stop_word(text: &mut [u8], at: usize, stop: Stop) -> usize
-    ensures { (text.new, result) ≡ adds_all (text.old, at) (stop_word (stop_of stop)) }
+// The name of a stop.
+fn stop_word(stop: Stop) -> &'static [u8]
+    ensures { result.now ≡ stop_word (stop_of stop) }
 {
     match stop {
-        Stop::Out => pen::put_word(text, at, b"stop out "),
-        Stop::End => pen::put_word(text, at, b"stop end "),
-        Stop::CutLength => pen::put_word(text, at, b"stop cut length "),
-        Stop::CutValue => pen::put_word(text, at, b"stop cut value "),
-        Stop::CutContinuation => pen::put_word(text, at, b"stop cut continuation "),
+        Stop::Out => b"stop out ",
+        Stop::End => b"stop end ",
+        Stop::CutLength => b"stop cut length ",
+        Stop::CutValue => b"stop cut value ",
+        Stop::CutContinuation => b"stop cut continuation ",
     }
 }
