@@ -2,7 +2,7 @@
 // a place on or by their index, with the destination masked to its width; and one is put into a value that is being written.
 #![tactic(auto)]
 
-ghost use Rattle.std.specs.Prelude.{◌≡◌, min, ◌≤◌};
+ghost use Rattle.std.specs.Prelude.{◌≡◌, min, ◌≤◌, length};
 ghost use mathlib.Core.List.{foldl};
 ghost use Rattle.rfc.specs.Routes as rfc;
 ghost use Rattle.rfc.specs.Classless as read;
@@ -27,6 +27,16 @@ pub struct Route {
     pub width: u8,
     pub destination: u32,
     pub gateway: u32,
+}
+
+impl Route {
+    // How many bytes it has, written.
+    #[tactic(auto, using(rfc::proofs::Routes::length_route))]
+    pub fn len(self) -> u16
+        ensures { result ≡ length (rfc.route_bytes (route_of self)) }
+    {
+        (1 + significant(self.width) + ADDRESS) as u16
+    }
 }
 
 // A row that was read: its route, and the place behind it, where the next row begins.

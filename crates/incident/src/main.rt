@@ -10,7 +10,7 @@ use whole::Whole;
 
 fn main(rt: HostRuntime) -> io::Result<()> {
     let message = message();
-    tell(&rt, &message[..244])?;
+    tell(&rt, borrowed::part(&message, 0, 244))?;
     tell(&rt, &message)
 }
 

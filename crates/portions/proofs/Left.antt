@@ -6,12 +6,14 @@ use native.Mathlib.Omega.{arith}
 use mathlib.Core.List.{List, [], ◌∷◌}
 use lib.ListN.{length, drop, length-drop}
 use lib.Seq.{drop-drop}
+use Rattle.std.specs.Result.{IsOk}
 use Rattle.std.specs.Prelude.{Option, Some, None, Result, Ok, Err}
 use Rattle.rfc.specs.Portions as rfc
 use Rattle.rfc.specs.Portions.{Portion, portion, next_portion, cut_field, whole, ahead, portions}
 use Rattle.rfc.proofs.Portions.{stands, ended, is-cut, one_part, ahead_is}
 use Rattle.portions.specs.Told.{next_of}
 use Rattle.refusal.specs.declared.Refusal.{Refusal}
+use Rattle.refusal.specs.declared.Refusal.TheVariants.{FieldCut}
 use Rattle.portions.specs.declared.Portion as numbers
 
 -- the first part of what is left of a field, by its numbers, in front of what stands behind its place
@@ -38,6 +40,14 @@ module _ (bytes : List ℕ) (at : ℕ) {r : Result (Option numbers.Portion) Refu
       go : (x : rfc.Next) → next_portion at (drop at bytes) ≡ x → portions at (drop at bytes) ≡ cut_field
       go rfc.no_more w = cc (ap next_of w)
       go rfc.cut_part w = is-cut at (drop at bytes) w
+      go (rfc.next p l) w = cc (ap next_of w)
+
+  pub cut_says : {f : Refusal} → r ≡ Err f → f ≡ FieldCut
+  cut_says {f} e = go (next_portion at (drop at bytes)) refl
+    where
+      go : (x : rfc.Next) → next_portion at (drop at bytes) ≡ x → f ≡ FieldCut
+      go rfc.no_more w = cc (ap next_of w)
+      go rfc.cut_part w = cc (ap next_of w)
       go (rfc.next p l) w = cc (ap next_of w)
 
   pub first_part : {q : numbers.Portion} → r ≡ Ok (Some q) → FirstPart bytes at q.code q.len q.place
@@ -90,11 +100,15 @@ module _ (bytes : List ℕ) (at : ℕ) (ps : List Portion) (left : portions at (
         left = b.left;
       }
 
-  -- no more parts are left, where no part is answered
-  pub none_left : ((q : numbers.Portion) → r ≡ Ok (Some q) → ⊥) → ps ≡ []
-  none_left never = go (next_portion at (drop at bytes)) refl
+  -- none of them is cut
+  pub left_ok : IsOk r
+  left_ok = go (next_portion at (drop at bytes)) refl
     where
-      go : (x : rfc.Next) → next_portion at (drop at bytes) ≡ x → ps ≡ []
-      go rfc.no_more w = let same : whole ps ≡ whole [] = sym left ∙ ended at (drop at bytes) w in cc
+      go : (x : rfc.Next) → next_portion at (drop at bytes) ≡ x → IsOk r
+      go rfc.no_more w = rw (told, w) refl
       go rfc.cut_part w = cc (is-cut at (drop at bytes) w)
-      go (rfc.next p l) w = absurd (never _ (told ∙ ap next_of w))
+      go (rfc.next p l) w = rw (told, w) refl
+
+  -- no more parts are left, where no part is answered
+  pub none_left : r ≡ Ok None → ps ≡ []
+  none_left e = let same : whole ps ≡ whole [] = sym left ∙ ended_left bytes at told e in cc

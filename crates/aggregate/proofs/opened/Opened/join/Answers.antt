@@ -1,4 +1,4 @@
--- `join_all` meets its contract: field after field is joined behind the others (`InFront`).
+-- `join` meets its contract: field after field is joined behind the others (`InFront`).
 -- Assumes nothing.
 use Prim.Native.Nat.{ℕ, ◌≤◌}
 use mathlib.Core.Path.{◌≡◌, sym, ap, ◌∙◌}
@@ -11,121 +11,121 @@ use Rattle.aggregate.specs.declared.fields.Spans.{Spans}
 use Rattle.aggregate.proofs.Spanning.{Reads, opens}
 use Rattle.aggregate.proofs.Fronts.{options_at, file_at, sname_at, file_front, sname_front}
 use Rattle.aggregate.proofs.Joining.{value_of, front_fits, InFront, front_none, front_joins, front_more}
-use Rattle.aggregate.proofs.gather.join_all.Goals as goal
+use Rattle.aggregate.proofs.opened.Opened.join.Goals as goal
 
 pub join_field-options-requires : goal.join_field-options-requires
 join_field-options-requires c =
     let message : List ℕ =
-    c.args.message.now in
+    c.args.self.message.now in
     let code : ℕ =
     c.args.code in
     let join : List ℕ =
     c.args.join.now in
     let at : Spans =
-    c.spans_of-at.result in
-    let reads : Reads message c.args.named =
-    opens message c.args.named c.requires.opened in
+    c.spans-at.result in
+    let reads : Reads message c.args.self.named =
+    opens message c.args.self.named c.args.self.opened in
     let all_fit : length (value_of code (reads.in-options ++ reads.in_file ++ reads.in_sname)) ≤ length join =
-    rw (← reads.all) c.requires.fits in
+    rw (← reads.all) c.requires in
     let two_fit : length (value_of code (reads.in-options ++ reads.in_file)) ≤ length join =
     front_fits code (reads.in-options ++ reads.in_file) reads.in_sname all_fit in
     let one_fits : length (value_of code reads.in-options) ≤ length join =
     front_fits code reads.in-options reads.in_file two_fit in
-    front_joins (front_none code join) at.options message (options_at reads c.spans_of-at.ensures) one_fits
+    front_joins (front_none code join) at.options message (options_at reads c.spans-at.ensures) one_fits
 
 pub slice_bounds-join_field-end : goal.slice_bounds-join_field-end
 slice_bounds-join_field-end c =
     let message : List ℕ =
-    c.args.message.now in
-    let reads : Reads message c.args.named =
-    opens message c.args.named c.requires.opened in
-    (file_front reads c.spans_of-at.ensures).0
+    c.args.self.message.now in
+    let reads : Reads message c.args.self.named =
+    opens message c.args.self.named c.args.self.opened in
+    (file_front reads c.spans-at.ensures).0
 
 pub join_field-file-requires : goal.join_field-file-requires
 join_field-file-requires c =
     let message : List ℕ =
-    c.args.message.now in
+    c.args.self.message.now in
     let code : ℕ =
     c.args.code in
     let join : List ℕ =
     c.args.join.now in
     let at : Spans =
-    c.spans_of-at.result in
-    let reads : Reads message c.args.named =
-    opens message c.args.named c.requires.opened in
+    c.spans-at.result in
+    let reads : Reads message c.args.self.named =
+    opens message c.args.self.named c.args.self.opened in
     let all_fit : length (value_of code (reads.in-options ++ reads.in_file ++ reads.in_sname)) ≤ length join =
-    rw (← reads.all) c.requires.fits in
+    rw (← reads.all) c.requires in
     let two_fit : length (value_of code (reads.in-options ++ reads.in_file)) ≤ length join =
     front_fits code (reads.in-options ++ reads.in_file) reads.in_sname all_fit in
     let one_fits : length (value_of code reads.in-options) ≤ length join =
     front_fits code reads.in-options reads.in_file two_fit in
     let in-options : InFront code reads.in-options join c.join_field-options.new.join c.join_field-options.result =
-    front_more (front_none code join) at.options message (options_at reads c.spans_of-at.ensures) one_fits
+    front_more (front_none code join) at.options message (options_at reads c.spans-at.ensures) one_fits
     c.join_field-options.ensures in
-    front_joins in-options 108 (take at.file message) (file_at reads c.spans_of-at.ensures)
+    front_joins in-options 108 (take at.file message) (file_at reads c.spans-at.ensures)
     two_fit
 
 pub slice_bounds-join_field-end-2 : goal.slice_bounds-join_field-end-2
 slice_bounds-join_field-end-2 c =
     let message : List ℕ =
-    c.args.message.now in
-    let reads : Reads message c.args.named =
-    opens message c.args.named c.requires.opened in
-    (sname_front reads c.spans_of-at.ensures).0
+    c.args.self.message.now in
+    let reads : Reads message c.args.self.named =
+    opens message c.args.self.named c.args.self.opened in
+    (sname_front reads c.spans-at.ensures).0
 
 pub join_field-requires : goal.join_field-requires
 join_field-requires c =
     let message : List ℕ =
-    c.args.message.now in
+    c.args.self.message.now in
     let code : ℕ =
     c.args.code in
     let join : List ℕ =
     c.args.join.now in
     let at : Spans =
-    c.spans_of-at.result in
-    let reads : Reads message c.args.named =
-    opens message c.args.named c.requires.opened in
+    c.spans-at.result in
+    let reads : Reads message c.args.self.named =
+    opens message c.args.self.named c.args.self.opened in
     let all_fit : length (value_of code (reads.in-options ++ reads.in_file ++ reads.in_sname)) ≤ length join =
-    rw (← reads.all) c.requires.fits in
+    rw (← reads.all) c.requires in
     let two_fit : length (value_of code (reads.in-options ++ reads.in_file)) ≤ length join =
     front_fits code (reads.in-options ++ reads.in_file) reads.in_sname all_fit in
     let one_fits : length (value_of code reads.in-options) ≤ length join =
     front_fits code reads.in-options reads.in_file two_fit in
     let in-options : InFront code reads.in-options join c.join_field-options.new.join c.join_field-options.result =
-    front_more (front_none code join) at.options message (options_at reads c.spans_of-at.ensures) one_fits
+    front_more (front_none code join) at.options message (options_at reads c.spans-at.ensures) one_fits
     c.join_field-options.ensures in
     let in_file : InFront code (reads.in-options ++ reads.in_file) join c.join_field-file.new.join c.join_field-file.result =
     front_more in-options 108 (take at.file message)
-    (file_at reads c.spans_of-at.ensures) two_fit c.join_field-file.ensures in
-    front_joins in_file 44 (take at.sname message) (sname_at reads c.spans_of-at.ensures)
+    (file_at reads c.spans-at.ensures) two_fit c.join_field-file.ensures in
+    front_joins in_file 44 (take at.sname message) (sname_at reads c.spans-at.ensures)
     all_fit
 
 pub returns : goal.returns
 returns c =
     let message : List ℕ =
-    c.args.message.now in
+    c.args.self.message.now in
     let code : ℕ =
     c.args.code in
     let join : List ℕ =
     c.args.join.now in
     let at : Spans =
-    c.spans_of-at.result in
-    let reads : Reads message c.args.named =
-    opens message c.args.named c.requires.opened in
+    c.spans-at.result in
+    let reads : Reads message c.args.self.named =
+    opens message c.args.self.named c.args.self.opened in
     let all_fit : length (value_of code (reads.in-options ++ reads.in_file ++ reads.in_sname)) ≤ length join =
-    rw (← reads.all) c.requires.fits in
+    rw (← reads.all) c.requires in
     let two_fit : length (value_of code (reads.in-options ++ reads.in_file)) ≤ length join =
     front_fits code (reads.in-options ++ reads.in_file) reads.in_sname all_fit in
     let one_fits : length (value_of code reads.in-options) ≤ length join =
     front_fits code reads.in-options reads.in_file two_fit in
     let in-options : InFront code reads.in-options join c.join_field-options.new.join c.join_field-options.result =
-    front_more (front_none code join) at.options message (options_at reads c.spans_of-at.ensures) one_fits
+    front_more (front_none code join) at.options message (options_at reads c.spans-at.ensures) one_fits
     c.join_field-options.ensures in
     let in_file : InFront code (reads.in-options ++ reads.in_file) join c.join_field-file.new.join c.join_field-file.result =
     front_more in-options 108 (take at.file message)
-    (file_at reads c.spans_of-at.ensures) two_fit c.join_field-file.ensures in
+    (file_at reads c.spans-at.ensures) two_fit c.join_field-file.ensures in
     let in_all : c.join_field.new.join ≡ over join 0 (value_of code (aggregate (fields_of message))) =
     (front_more in_file 44 (take at.sname message)
-    (sname_at reads c.spans_of-at.ensures) all_fit c.join_field.ensures).put
+    (sname_at reads c.spans-at.ensures) all_fit c.join_field.ensures).put
     ∙ ap (λ (ps : List Portion). over join 0 (value_of code ps)) (sym reads.all) in
     in_all
