@@ -75,6 +75,7 @@ pub fn sindovaleph_step(area: &[u8], place: usize, join: &mut [u8]) -> Step
 }
 
 // The long way of a step: any place of any area.
+#[tactic(auto, using(crossing::proofs::Carries::step_crosses))]
 fn long_way(area: &[u8], place: usize, join: &mut [u8]) -> Step
     ensures { Stepped area.now place join.old join.new result }
 {
