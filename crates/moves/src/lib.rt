@@ -70,16 +70,14 @@ impl Rows for Pairs<'_> {
 
     ghost known = { λ p. out_known p.value.now };
 
-    fn measure(&self, pass: Pass) -> Pass {
-        let mut pass = pass;
+    fn measure(&self, mut pass: Pass) -> Pass {
         for pair in self.value.chunks_exact(PAIR) {
             pass = pass.measure(measured_out(moved(pair)));
         }
         pass
     }
 
-    fn put(&self, room: &mut [u8], pass: Pass) -> Pass {
-        let mut pass = pass;
+    fn put(&self, room: &mut [u8], mut pass: Pass) -> Pass {
         for pair in self.value.chunks_exact(PAIR) {
             pass = classless::put_route(room, pass, moved(pair));
         }
@@ -100,8 +98,7 @@ impl Rows for Routes<'_> {
     ghost known = { λ r. back_known r.value.now };
 
     // Behind a row that is cut or too wide no other begins.
-    fn measure(&self, pass: Pass) -> Pass {
-        let mut pass = pass;
+    fn measure(&self, mut pass: Pass) -> Pass {
         let mut at = 0;
         loop {
             match classless::route_from(self.value, at) {
@@ -115,8 +112,7 @@ impl Rows for Routes<'_> {
         }
     }
 
-    fn put(&self, room: &mut [u8], pass: Pass) -> Pass {
-        let mut pass = pass;
+    fn put(&self, room: &mut [u8], mut pass: Pass) -> Pass {
         let mut at = 0;
         while let Ok(Some(row)) = classless::route_from(self.value, at) {
             pass = put_pair(room, pass, row.route);
