@@ -30,8 +30,8 @@ class Token:
 class Function:
     crate: str
     file: Path
-    # As another crate writes it, without the crate's name: `look`, `lists::write_pairs`, `Header::op`; of a trait's it is what a proof writes:
-    # the type, the trait and the function, `FieldFrom::from`.
+    # As another crate writes it, without the crate's name: `look`, `lists::write_pairs`, `Header::op`; of a trait's it is what a proof writes,
+    # by the type, the trait and the function: `ValueFromHeld::from`.
     path: str
     # Whether other crates can call it. Of the traits' functions those that convert count.
     public: bool
@@ -88,8 +88,9 @@ def closing(found, at):
 
 def body_of(found, at):
     """The index of the brace that opens the body of the function at `at`, behind its clauses, or of the `;` in its place in a trait."""
-    i = at
-    while found[i].text not in ("{", ";"):
+    i, inside = at, 0
+    while found[i].text != "{" and (inside > 0 or found[i].text != ";"):
+        inside += {"[": 1, "]": -1}.get(found[i].text, 0)
         i = closing(found, i + 1) + 1 if found[i].text in ("requires", "ensures", "ghost") else i + 1
     return i
 
@@ -108,11 +109,17 @@ CONVERSIONS = ("From", "TryFrom")
 def owner_of(found, at):
     """What stands before the names of the functions of the `impl` at `at`, whether it is one of a conversion, and where its brace opens."""
     opening = next(i for i in range(at, len(found)) if found[i].text == "{")
-    head = [token.text for token in found[at + 1 : opening]]
+    head, depth = [], 0
+    for token in found[at + 1 : opening]:
+        # What stands in the first brackets, right behind `impl`, are its parameters.
+        depth += {"<": 1, ">": -1}.get(token.text, 0) if not head else 0
+        if token.kind == "word" and depth == 0:
+            head.append(token.text)
     if "for" not in head:
         return head[0] + "::", False, opening
-    of = head[head.index("for") + 1]
-    return f"{of[0].upper()}{of[1:]}{head[0]}::", head[0] in CONVERSIONS, opening
+    trait = head[: head.index("for")]
+    words = [head[head.index("for") + 1], *trait]
+    return "".join(word[0].upper() + word[1:] for word in words) + "::", trait[0] in CONVERSIONS, opening
 
 
 def functions_in(crate, file, text, module, public):

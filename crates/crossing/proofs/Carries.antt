@@ -9,9 +9,7 @@ use Rattle.rfc.specs.Values as rfc
 use Rattle.rfc.specs.Writing.{Write}
 use Rattle.std.specs.Prelude.{Result, Ok, Err}
 use Rattle.refusal.specs.declared.Refusal.{Refusal}
-use Rattle.refusal.specs.Told as refusal
 use Rattle.refusal.proofs.Told.{says_as}
-use Rattle.encoder.specs.Written as encoder
 use Rattle.borrowed.specs.Walked as walked
 use Rattle.borrowed.specs.declared.answer.Step as call
 use Rattle.borrowed.specs.declared.answer.Step.TheVariants.{Stopped, Found}
@@ -19,7 +17,7 @@ use Rattle.borrowed.proofs.Shown.{length_shown}
 use Rattle.values.specs.Reading.{says, count_of, ReadAs}
 use Rattle.values.specs.declared.answer.Value as held
 use Rattle.values.specs.declared.answer.Value.TheVariants as case
-use Rattle.crossing.specs.Carried.{step_of, step_here, Steps, holding, value_of, reading_here, written_of, Wrote, WroteValue}
+use Rattle.crossing.specs.Carried.{step_of, step_here, Steps, holding, value_of, reading_here, Wrote}
 use Rattle.crossing.specs.declared.answers.Step.{Step}
 use Rattle.crossing.specs.declared.answers.Written.{Written}
 

@@ -2,16 +2,20 @@
 -- Assumes nothing.
 use mathlib.Core.Path.{sym, ◌∙◌}
 use Rattle.facts.proofs.Unique.{Unique}
-use Rattle.crossing.proofs.field_of.Kinds as field-of-kinds
-use Rattle.crossing.proofs.field_of.Reads as field_of
+use Rattle.crossing.proofs.FieldFromResultUsizeRefusal.from.Kinds as field-of-kinds
+use Rattle.crossing.proofs.FieldFromResultUsizeRefusal.from.Reads as field_of
 use Rattle.crossing.proofs.step_of.Kinds as step-of-kinds
 use Rattle.crossing.proofs.step_of.Reads as step_of_lem
+use Rattle.crossing.proofs.StepFromFound.from.Kinds as option-of-kinds
+use Rattle.crossing.proofs.StepFromFound.from.Reads as option-of
+use Rattle.crossing.proofs.ValueFromHeld.from.Kinds as held-of-kinds
+use Rattle.crossing.proofs.ValueFromHeld.from.Reads as held-of
 use Rattle.crossing.proofs.stop_number.Kinds as stop-number-kinds
 use Rattle.crossing.proofs.stop_number.Reads as stop-number
-use Rattle.crossing.proofs.value_of.Kinds as value-of-kinds
-use Rattle.crossing.proofs.value_of.Reads as value_of_lem
-use Rattle.crossing.proofs.element_of.Kinds as element-of-kinds
-use Rattle.crossing.proofs.element_of.Reads as element-of
+use Rattle.crossing.proofs.ValueFromResultHeldRefusal.from.Kinds as value-of-kinds
+use Rattle.crossing.proofs.ValueFromResultHeldRefusal.from.Reads as value_of_lem
+use Rattle.crossing.proofs.ElementFromResultEntryRefusal.from.Kinds as element-of-kinds
+use Rattle.crossing.proofs.ElementFromResultEntryRefusal.from.Reads as element-of
 use Rattle.crossing.proofs.written_of.Kinds as written-of-kinds
 use Rattle.crossing.proofs.written_of.Reads as written_of_lem
 
@@ -20,6 +24,12 @@ field_of_unique κs a x y s t p q = p ∙ sym q
 
 step_of_unique : Unique 0 step-of-kinds.ps step-of-kinds.r step_of_lem.Post
 step_of_unique κs a x y s t p q = p ∙ sym q
+
+option_of_unique : Unique 0 option-of-kinds.ps option-of-kinds.r option-of.Post
+option_of_unique κs a x y s t p q = p ∙ sym q
+
+held_of_unique : Unique 0 held-of-kinds.ps held-of-kinds.r held-of.Post
+held_of_unique κs a x y s t p q = p ∙ sym q
 
 stop_number_unique : Unique 0 stop-number-kinds.ps stop-number-kinds.r stop-number.Post
 stop_number_unique κs a x y s t p q = p ∙ sym q

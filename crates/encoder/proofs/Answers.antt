@@ -1,18 +1,17 @@
 -- A writer's answers, for any write: a refusal, a success, and what its contract tells a caller.
 -- Assumes nothing.
 use mathlib.Core.Path.{◌≡◌, refl, sym, ap, ◌∙◌, subst}
-use Prim.Native.Nat.{ℕ, ◌+◌, ◌-◌, ◌≤◌, ◌<◌}
-use mathlib.Core.List.{List, ◌∷◌, ◌++◌}
-use lib.ListN.{length, take, drop, set, length-set, length-drop}
+use Prim.Native.Nat.{ℕ, ◌+◌, ◌≤◌, ◌<◌}
+use mathlib.Core.List.{List, ◌++◌}
+use lib.ListN.{length, take, drop, length-drop}
 use lib.Seq.{length-take-le}
 use native.Mathlib.Omega.{arith}
 use Rattle.facts.specs.Over.{over}
-use Rattle.facts.proofs.Over.{over_part, over_all, length_over}
+use Rattle.facts.proofs.Over.{over_part, over_all}
 use Rattle.std.specs.Prelude.{Result, Ok, Err}
 use Rattle.rfc.specs.Numbers.{given, refused}
 use Rattle.rfc.specs.Writing.{Write, answer_to, room_after, write_slice}
 use Rattle.rfc.proofs.Writing.{Alike, refused_left, slice_4, slice_8, slice_given, slice_left}
-use Rattle.rfc.proofs.Sofar.{part_over}
 use Rattle.refusal.specs.declared.Refusal.{Refusal}
 use Rattle.refusal.specs.declared.Refusal.TheVariants.{PastEnd, NoRoom}
 use Rattle.refusal.specs.Told.{says}
@@ -72,29 +71,3 @@ put_part bytes room at n {part} e h w =
     let l : length (take n (drop at room)) ≡ n = length-take-le n (drop at room) (omega (arith, length-drop at room)) in
     let all : part ≡ bytes = put_over bytes _ part 0 _ (omega arith) w ∙ over_all _ bytes (omega arith) in
     ap (λ (p : List ℕ). take at room ++ (p ++ drop n (drop at room))) all ∙ over_part room at n bytes e
-
--- two stores, and a writer's bytes in just their part of the room behind them, which are made of n elements of a list: a part
-module _ (make : List ℕ → List ℕ) (room l : List ℕ) (at code size from n : ℕ) (e : length (make (take n (drop from l))) ≡ size)
-    (h : at + (2 + size) ≤ length room) where
-  abbrev stored : List ℕ
-  stored = set (set room at code) (at + 1) size
-
-  abbrev long : ℕ
-  long = at + 2 + size - (at + 2)
-
-  abbrev made : List ℕ
-  made = make (take n (drop from l))
-
-  pub part_put : {part : List ℕ} {r : Result ℕ Refusal} → Wrote (write_slice (make (take (from + n - from) (drop from l))) (take long (drop (at + 2) stored)) 0)
-      (take long (drop (at + 2) stored)) part 0 r
-      → take (at + 2) stored ++ (part ++ drop long (drop (at + 2) stored)) ≡ over room at (code ∷ size ∷ made)
-  part_put w =
-      let k : from + n - from ≡ n = omega arith in
-      let s : length stored ≡ length room = simp length-set in
-      put_part made stored (at + 2) long (omega arith) (omega arith) (same_bytes (ap (λ (m : ℕ). make (take m (drop from l))) k) w)
-      ∙ part_over room made at code size (omega arith)
-
-  pub part_keeps : {part : List ℕ} {r : Result ℕ Refusal} → Wrote (write_slice (make (take (from + n - from) (drop from l))) (take long (drop (at + 2) stored)) 0)
-      (take long (drop (at + 2) stored)) part 0 r
-      → length (take (at + 2) stored ++ (part ++ drop long (drop (at + 2) stored))) ≡ length room
-  part_keeps w = ap length (part_put w) ∙ length_over room at (code ∷ size ∷ made) (omega arith)

@@ -1,35 +1,38 @@
 -- What the contracts of the fixed header's readers say, over the definitions of `Rattle.rfc.specs.Header`.
 -- Assumes nothing.
-use Rattle.std.specs.Prelude.{ℕ, ◌+◌, ◌≤◌, ◌<◌, ◌≡◌, Bool, true, false, cond, List, eqb, length}
-use Rattle.rfc.specs.Numbers.{Answer, given, refused, needs, least_message, most_bytes}
+use Rattle.std.specs.Prelude.{ℕ, ◌+◌, ◌≤◌, ◌<◌, ◌≡◌, Bool, true, false, cond, List, eqb, Option, Some, None, Result, Ok, Err}
+use Rattle.rfc.specs.Numbers.{Answer, given, refused, needs, checked, least_message}
 use Rattle.rfc.specs.Header as rfc
-use Rattle.header.specs.declared.Number as number
-use Rattle.header.specs.declared.Number.TheVariants as numbers
-use Rattle.header.specs.declared.Part as part
-use Rattle.header.specs.declared.Part.TheVariants as parts
-use Rattle.header.specs.declared.Chaddr as chaddr
-use Rattle.header.specs.declared.Chaddr.TheVariants as chaddrs
-use Rattle.header.specs.declared.Area as area
-use Rattle.header.specs.declared.Area.TheVariants as areas
+use Rattle.refusal.specs.declared.Refusal.{Refusal}
+use Rattle.refusal.specs.Told.{says}
+use Rattle.header.specs.declared.Span.{Span}
+use Rattle.header.specs.declared.Chaddr.{Chaddr}
 use Rattle.header.specs.declared.Fields.{Fields}
 
--- what each case of an answer says: the document's number and values
-abbrev pub says : number.Number → Answer ℕ
-says (numbers.Is n) = given n
-says (numbers.Refused k) = refused k
+-- the definition's words for each that an answer gives
+abbrev pub part_of : Span → rfc.Part
+part_of s = rfc.part s.start s.len
 
-abbrev pub says_part : part.Part → Answer rfc.Part
-says_part (parts.At start len) = given (rfc.part start len)
-says_part (parts.Refused k) = refused k
+abbrev pub address_of : Chaddr → rfc.Address
+address_of a = record { shown = rfc.part a.start a.len; own = a.own; spills = a.spills }
 
-abbrev pub says_address : chaddr.Chaddr → Answer rfc.Address
-says_address (chaddrs.At start len own spills) = given (record { shown = rfc.part start len; own = own; spills = spills })
-says_address (chaddrs.Refused k) = refused k
+abbrev pub area_of : Option Span → rfc.Area
+area_of (Some s) = rfc.options (part_of s)
+area_of None = rfc.wrong_magic
 
-abbrev pub says_area : area.Area → Answer rfc.Area
-says_area (areas.At start len) = given (rfc.options (rfc.part start len))
-says_area areas.WrongMagic = given rfc.wrong_magic
-says_area (areas.Refused k) = refused k
+-- what an answer says in them
+abbrev pub said : {A B : Type 0} → (A → B) → Result A Refusal → Answer B
+said word (Ok a) = given (word a)
+said word (Err e) = says e
+
+abbrev pub says_part : Result Span Refusal → Answer rfc.Part
+says_part = said part_of
+
+abbrev pub says_address : Result Chaddr Refusal → Answer rfc.Address
+says_address = said address_of
+
+abbrev pub says_area : Result (Option Span) Refusal → Answer rfc.Area
+says_area = said area_of
 
 -- what all fields at once say of an answer. The number of a refusal, 0 for none
 abbrev pub refusal_in : {A : Type 0} → Answer A → ℕ
@@ -95,10 +98,7 @@ all_of message =
       wrong_magic = magic_in (rfc.area message);
     }
 
--- Between the functions of the crate: how many bytes of the address are shown, and the fields of a message that this number refuses
-abbrev pub shown_in : Answer rfc.Address → ℕ
-shown_in = of_given (λ (x : rfc.Address). x.shown.len) 0
-
+-- Between the functions of the crate: the fields of a message that this number refuses
 abbrev pub none_of : ℕ → Fields
 none_of k =
     record {
@@ -122,10 +122,9 @@ none_of k =
       wrong_magic = false;
     }
 
--- a message that is read
-pub record Whole (message : List ℕ) : Type 0 where
-  pub least : least_message ≤ length message
-  pub most : length message ≤ most_bytes
+-- the checks of every reading refuse a message so
+abbrev pub Stopped : List ℕ → Refusal → Type 0
+Stopped message e = says e ≡ checked (rfc.message_checks message) (given (tt {0}))
 
 -- bytes that every message has
 abbrev pub Inside : ℕ → ℕ → Type 0

@@ -11,30 +11,31 @@ ghost use Rattle.pen.specs.Adding.{adds_all};
 ghost use Rattle.joined_lines.specs.Joined.{fields_line, codes_line, entries_in, fields_lines, joined_lines, joined_listing};
 
 use borrowed::answer::Step;
-use encoder::Written;
-use header::{Area, Header, Number};
-use limits::MOST_BYTES;
+use header::Header;
 use lines::MOST_LISTED;
+use lines::writing::{Text, write};
+use refusal::Refusal;
+
+// A message that is listed in this reading.
+#[derive(Clone, Copy)]
+struct Joined<'a> {
+    message: &'a [u8],
+}
+
+impl<'a> Text for Joined<'a> {
+    ghost whole = { λ it. joined_listing it.message.now };
+
+    fn put(&self, room: &mut [u8], at: usize) -> usize {
+        put_joined(room, at, self.message)
+    }
+}
 
 // Writes the listing of `message` at `place`.
-pub fn write_joined(room: &mut [u8], place: usize, message: &[u8]) -> Written
+pub fn write_joined(room: &mut [u8], place: usize, message: &[u8]) -> Result<usize, Refusal>
     ensures { Wrote (into_room (joined_listing message.now) room.old place)
         room.old room.new place result }
 {
-    if room.len() > MOST_BYTES {
-        return Written::Refused(2);
-    }
-    if place > room.len() {
-        return Written::Refused(4);
-    }
-    // Outside a room a text is counted and not written: so it is measured.
-    let mut nowhere = [0u8; 1];
-    let size = put_joined(&mut nowhere, 0, message);
-    if size > room.len() - place {
-        return Written::Refused(8);
-    }
-    let to = put_joined(room, place, message);
-    Written::To(to)
+    write(room, place, &Joined { message })
 }
 
 // Adds the whole listing.
@@ -53,9 +54,9 @@ fn put_lines(text: &mut [u8], at: usize, message: &[u8]) -> usize
         ≡ adds_all (text.old, at) (joined_lines message.now (rfc.area message.now)) }
 {
     match Header::area(message) {
-        Area::Refused(number) => lines::put_refused(text, at, number),
-        Area::WrongMagic => pen::put_word(text, at, b"magic wrong\n"),
-        Area::At { start: _, len: _ } => put_fields(text, at, message),
+        Ok(Some(_)) => put_fields(text, at, message),
+        Ok(None) => pen::put_word(text, at, b"magic wrong\n"),
+        Err(refusal) => lines::put_refused(text, at, refusal.number()),
     }
 }
 
@@ -65,29 +66,25 @@ fn put_fields(text: &mut [u8], at: usize, message: &[u8]) -> usize
         ≡ adds_all (text.old, at) (fields_lines message.now (overload_of message.now)) }
 {
     match aggregate::fields::overload(message) {
-        Number::Refused(number) => lines::put_refused(text, at, number),
-        Number::Is(named) => {
+        Ok(named) => {
             let mut join = [0u8; MOST_LISTED];
-            let to = put_names(text, at, named);
+            let to = pen::put_word(text, at, fields_line(named));
             put_entries(text, to, message, &mut join)
         }
+        Err(refusal) => lines::put_refused(text, at, refusal.number()),
     }
 }
 
-// Adds the names of the fields that option 52 names.
-fn put_names(text: &mut [u8], at: usize, named: usize) -> usize
-    ensures { (text.new, result) ≡ adds_all (text.old, at) (fields_line named) }
+// The line of the fields that option 52 names.
+fn fields_line(named: usize) -> &'static [u8]
+    ensures { result.now ≡ fields_line named }
 {
-    if named == 1 {
-        return pen::put_word(text, at, b"fields options file\n");
+    match named {
+        1 => b"fields options file\n",
+        2 => b"fields options sname\n",
+        3 => b"fields options file sname\n",
+        _ => b"fields options\n",
     }
-    if named == 2 {
-        return pen::put_word(text, at, b"fields options sname\n");
-    }
-    if named == 3 {
-        return pen::put_word(text, at, b"fields options file sname\n");
-    }
-    pen::put_word(text, at, b"fields options\n")
 }
 
 // Adds a line for each code, and how many there are, in no more calls than the message has bytes.
@@ -96,22 +93,14 @@ fn put_entries(text: &mut [u8], at: usize, message: &[u8], join: &mut [u8]) -> u
         (entries_in (length message.now) (length join.old) message.now 0) }
 {
     let mut to = at;
-    let mut index: usize = 0;
-    while index < message.len() {
+    for index in 0..message.len() {
         match aggregate::entry(message, index, join) {
-            Step::Found {
-                code,
-                parts,
-                len,
-                place,
-            } => {
-                let value = borrowed::value(message, join, parts, len, place);
-                to = lines::put_option(text, to, code, parts, value);
-                index += 1;
+            Ok(Step::Found(found)) => {
+                let value = found.value(message, join);
+                to = lines::put_option(text, to, found.code, found.parts, value);
             }
-            Step::Stopped(_, _) => return put_codes(text, to, index),
-            Step::Refused(number) => return lines::put_refused(text, to, number),
-            Step::Needs(_) => return lines::put_refused(text, to, 5),
+            Ok(Step::Stopped(_, _)) => return put_codes(text, to, index),
+            Err(refusal) => return lines::put_refused(text, to, refusal.number()),
         }
     }
     to

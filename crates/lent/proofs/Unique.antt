@@ -3,16 +3,18 @@
 use mathlib.Core.Path.{◌≡◌, sym, ◌∙◌}
 use Prim.Native.Nat.{ℕ}
 use mathlib.Core.List.{List}
+use Rattle.std.specs.Prelude.{Result}
 use Rattle.facts.proofs.Unique.{UniqueLeft, UniqueByHand, together}
+use Rattle.refusal.specs.declared.Refusal.{Refusal}
 use Rattle.borrowed.specs.declared.answer.Step.{Step}
 use Rattle.borrowed.proofs.Unique.{walked_one}
 use Rattle.lent.specs.Moved.{Moved}
 use Rattle.lent.specs.declared.Walk.{Walk}
-use Rattle.lent.specs.contracts.next as next
+use Rattle.lent.specs.contracts.Walk.next as next
 use Rattle.lent.proofs.next_from.Kinds as next-from-kinds
 use Rattle.lent.proofs.next_from.Reads as next-from
 
-moved_one : {area join j₁ j₂ : List ℕ} {place p₁ p₂ : ℕ} {r₁ r₂ : Step}
+moved_one : {area join j₁ j₂ : List ℕ} {place p₁ p₂ : ℕ} {r₁ r₂ : Result Step Refusal}
     → Moved area place p₁ join j₁ r₁ → Moved area place p₂ join j₂ r₂ → (r₁ ≡ r₂) × (j₁ ≡ j₂) × (p₁ ≡ p₂)
 moved_one m n =
     let w = walked_one m.stepped n.stepped in

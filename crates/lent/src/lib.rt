@@ -6,6 +6,7 @@ ghost use Rattle.borrowed.specs.Walked.{Stepped};
 ghost use Rattle.lent.specs.Moved.{Moved};
 
 use borrowed::answer::Step;
+use refusal::Refusal;
 
 // Where a walk goes on.
 #[derive(Drop)]
@@ -13,22 +14,22 @@ pub struct Walk {
     pub place: usize,
 }
 
-// One call from where the walk stands; a refusal leaves it there. An option of two parts or more is joined in `join`.
-pub fn next(walk: &mut Walk, area: &[u8], join: &mut [u8]) -> Step
-    ensures { Moved area.now walk.old.place walk.new.place
-        join.old join.new result }
-{
-    let at = walk.place;
-    let s = borrowed::step(area, at, join);
-    let to = borrowed::place_after(s, at);
-    walk.place = to;
-    s
+impl Walk {
+    // One call from where the walk stands; a refusal leaves it there. An option of two parts or more is joined in `join`.
+    #[tactic(auto, using(crate::proofs::Moves::moves))]
+    pub fn next(&mut self, area: &[u8], join: &mut [u8]) -> Result<Step, Refusal>
+        ensures { Moved area.now self.old.place self.new.place
+            join.old join.new result }
+    {
+        let s = borrowed::step(area, self.place, join);
+        self.place = borrowed::place_after(s, self.place);
+        s
+    }
 }
 
 // One call of a walk that is made at `place`, for callers that hold none.
-pub fn next_from(area: &[u8], place: usize, join: &mut [u8]) -> Step
+pub fn next_from(area: &[u8], place: usize, join: &mut [u8]) -> Result<Step, Refusal>
     ensures { Stepped area.now place join.old join.new result }
 {
-    let mut walk = Walk { place };
-    next(&mut walk, area, join)
+    Walk { place }.next(area, join)
 }

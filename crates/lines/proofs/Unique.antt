@@ -1,14 +1,25 @@
 -- Any two answers that the contract of a function allows are equal, and so are the rooms that it leaves.
 -- Assumes nothing.
+use denote.RattleType.{RattleType}
+use denote.Param.Laws.{Laws}
+use mir.Syntax.{Dict}
 use Rattle.facts.proofs.Unique.{UniqueLeft}
 use Rattle.encoder.proofs.Answers.{wrote_one}
 use Rattle.pen.proofs.Unique.{same}
+use Rattle.lines.specs.declared.writing.Text as Text
+use Rattle.lines.proofs.writing.write.Kinds as write-kinds
+use Rattle.lines.proofs.writing.write.Reads as write
 use Rattle.lines.proofs.write_listing.Kinds as write-listing-kinds
 use Rattle.lines.proofs.write_listing.Reads as write-listing
 use Rattle.lines.proofs.put_refused.Kinds as put-refused-kinds
 use Rattle.lines.proofs.put_refused.Reads as Put-refused
 use Rattle.lines.proofs.put_option.Kinds as put-option-kinds
 use Rattle.lines.proofs.put_option.Reads as put-option
+
+-- of texts of any type
+module _ (T : RattleType) (laws : Laws T) (g : Text.Ghosts T.Denot) (d : Dict) where
+  write_unique : UniqueLeft 3 (write-kinds.ps T laws) (write-kinds.r T laws) (write.Post T laws g d) (λ κs s. s.0.now)
+  write_unique κs a x y s t p q = wrote_one p q
 
 write_listing_unique : UniqueLeft 2 write-listing-kinds.ps write-listing-kinds.r write-listing.Post (λ κs s. s.0.now)
 write_listing_unique κs a x y s t p q = wrote_one p q

@@ -2,44 +2,47 @@
 // and the stop.
 #![tactic(auto)]
 
+pub mod writing;
+
 ghost use Rattle.std.specs.Prelude.{◌≡◌, length};
 ghost use Rattle.rfc.specs.Header as rfc;
 ghost use Rattle.rfc.specs.Writing.{into_room};
 ghost use Rattle.encoder.specs.Written.{Wrote};
-ghost use Rattle.header.specs.declared.Number.TheVariants.{Is};
 ghost use Rattle.borrowed.specs.Walked.{stop_of};
 ghost use Rattle.pen.specs.Adding.{adds_all};
 ghost use Rattle.lines.specs.Listing.{message_line, spill_text, address_text, chaddr_line, area_lines, listing};
 ghost use Rattle.lines.specs.Listing.{refused_line, option_line, stop_word, stop_line, lines_in};
-ghost use Rattle.lines.specs.Told.{Listed, Given};
+ghost use Rattle.lines.specs.Listed.{Listed};
 
 use borrowed::answer::{Step, Stop};
-use encoder::Written;
-use header::{Area, Chaddr, Header, Number};
-use limits::{LEAST_MESSAGE, MOST_BYTES};
+use header::Header;
+use limits::LEAST_MESSAGE;
+use refusal::Refusal;
+use writing::{Text, write};
 
 // The most bytes of a message that is listed, and the room in which its options are joined.
 pub const MOST_LISTED: usize = 4096;
 
+// A message that is listed.
+#[derive(Clone, Copy)]
+struct Listing<'a> {
+    message: &'a [u8],
+}
+
+impl<'a> Text for Listing<'a> {
+    ghost whole = { λ it. listing it.message.now };
+
+    fn put(&self, room: &mut [u8], at: usize) -> usize {
+        put_listing(room, at, self.message)
+    }
+}
+
 // Writes the listing of `message` at `place`.
-pub fn write_listing(room: &mut [u8], place: usize, message: &[u8]) -> Written
+pub fn write_listing(room: &mut [u8], place: usize, message: &[u8]) -> Result<usize, Refusal>
     ensures { Wrote (into_room (listing message.now) room.old place)
         room.old room.new place result }
 {
-    if room.len() > MOST_BYTES {
-        return Written::Refused(2);
-    }
-    if place > room.len() {
-        return Written::Refused(4);
-    }
-    // Outside a room a text is counted and not written: so it is measured.
-    let mut nowhere = [0u8; 1];
-    let size = put_listing(&mut nowhere, 0, message);
-    if size > room.len() - place {
-        return Written::Refused(8);
-    }
-    let to = put_listing(room, place, message);
-    Written::To(to)
+    write(room, place, &Listing { message })
 }
 
 // Adds the whole listing.
@@ -65,29 +68,17 @@ pub fn put_refused(text: &mut [u8], at: usize, number: u8) -> usize
     pen::put_word(text, to, b"\n")
 }
 
-// Adds the line of the message's length and of four numbers of its header.
+// Adds the line of the message's length and of four numbers of its header, none of which is refused.
 fn put_message(text: &mut [u8], at: usize, message: &[u8]) -> usize
     requires { Listed message.now }
     ensures { (text.new, result) ≡ adds_all (text.old, at) (message_line message.now) }
 {
     let op = pen::put_named(text, at, b"message ", message.len());
-    let htype = pen::put_named(text, op, b" op ", number_in(Header::op(message)));
-    let hlen = pen::put_named(text, htype, b" htype ", number_in(Header::htype(message)));
-    let xid = pen::put_named(text, hlen, b" hlen ", number_in(Header::hlen(message)));
-    let end = pen::put_named(text, xid, b" xid ", number_in(Header::xid(message)));
+    let htype = pen::put_named(text, op, b" op ", Header::op(message).unwrap());
+    let hlen = pen::put_named(text, htype, b" htype ", Header::htype(message).unwrap());
+    let xid = pen::put_named(text, hlen, b" hlen ", Header::hlen(message).unwrap());
+    let end = pen::put_named(text, xid, b" xid ", Header::xid(message).unwrap());
     pen::put_word(text, end, b"\n")
-}
-
-// A number of the header, of a message that is listed.
-fn number_in(number: Number) -> usize
-    requires { Given number }
-    ensures { number ≡ Is result }
-{
-    match number {
-        Number::Is(n) => n,
-        // Never: what is required rules it out, and the contract has no answer for it.
-        Number::Refused(_) => 0,
-    }
 }
 
 // Adds the line of the hardware address.
@@ -104,18 +95,14 @@ fn put_address(text: &mut [u8], at: usize, message: &[u8]) -> usize
         ≡ adds_all (text.old, at) (address_text message.now (rfc.chaddr message.now)) }
 {
     match Header::chaddr(message) {
-        Chaddr::Refused(number) => {
-            let to = pen::put_word(text, at, b" ");
-            put_refused(text, to, number)
+        Ok(chaddr) => {
+            let shown = borrowed::part(message, chaddr.start, chaddr.len);
+            let end = pen::put_spaced(text, at, shown);
+            put_spill(text, end, chaddr.spills)
         }
-        Chaddr::At {
-            start,
-            len,
-            own: _,
-            spills,
-        } => {
-            let end = pen::put_spaced(text, at, borrowed::part(message, start, len));
-            put_spill(text, end, spills)
+        Err(refusal) => {
+            let to = pen::put_word(text, at, b" ");
+            put_refused(text, to, refusal.number())
         }
     }
 }
@@ -136,18 +123,13 @@ fn put_area(text: &mut [u8], at: usize, message: &[u8]) -> usize
         ≡ adds_all (text.old, at) (area_lines message.now (rfc.area message.now)) }
 {
     match Header::area(message) {
-        Area::Refused(number) => put_refused(text, at, number),
-        Area::WrongMagic => pen::put_word(text, at, b"magic wrong\n"),
-        Area::At { start, len } => {
+        Ok(Some(span)) => {
+            let area = borrowed::part(message, span.start, span.len);
             let mut join = [0u8; MOST_LISTED];
-            put_options(
-                text,
-                at,
-                borrowed::part(message, start, len),
-                &mut join,
-                message.len(),
-            )
+            put_options(text, at, area, &mut join, message.len())
         }
+        Ok(None) => pen::put_word(text, at, b"magic wrong\n"),
+        Err(refusal) => put_refused(text, at, refusal.number()),
     }
 }
 
@@ -158,23 +140,15 @@ fn put_options(text: &mut [u8], at: usize, area: &[u8], join: &mut [u8], calls: 
 {
     let mut to = at;
     let mut place: usize = 0;
-    let mut left = calls;
-    while left > 0 {
-        left -= 1;
+    for _ in 0..calls {
         match borrowed::step(area, place, join) {
-            Step::Found {
-                code,
-                parts,
-                len,
-                place: next,
-            } => {
-                let value = borrowed::value(area, join, parts, len, next);
-                to = put_option(text, to, code, parts, value);
-                place = next;
+            Ok(Step::Found(found)) => {
+                let value = found.value(area, join);
+                to = put_option(text, to, found.code, found.parts, value);
+                place = found.place;
             }
-            Step::Stopped(stop, end) => return put_stop(text, to, stop, end),
-            Step::Refused(number) => return put_refused(text, to, number),
-            Step::Needs(_) => return put_refused(text, to, 5),
+            Ok(Step::Stopped(stop, end)) => return put_stop(text, to, stop, end),
+            Err(refusal) => return put_refused(text, to, refusal.number()),
         }
     }
     to
@@ -185,7 +159,12 @@ pub fn put_option(text: &mut [u8], at: usize, code: u8, parts: usize, value: &[u
     ensures { (text.new, result) ≡ adds_all (text.old, at) (option_line code value.now parts) }
 {
     let kind = pen::put_named(text, at, b"option ", code as usize);
-    let counted = pen::put_named(text, kind, b" kind ", kinds::kind_of(code) as usize);
+    let counted = pen::put_named(
+        text,
+        kind,
+        b" kind ",
+        kinds::kind_of(code).number() as usize,
+    );
     let shown = pen::put_named(text, counted, b" parts ", parts);
     let bytes = pen::put_word(text, shown, b" value");
     let end = pen::put_spaced(text, bytes, value);
@@ -196,20 +175,19 @@ pub fn put_option(text: &mut [u8], at: usize, code: u8, parts: usize, value: &[u
 fn put_stop(text: &mut [u8], at: usize, stop: Stop, place: usize) -> usize
     ensures { (text.new, result) ≡ adds_all (text.old, at) (stop_line (stop_of stop) place) }
 {
-    let number = put_stop_word(text, at, stop);
-    let end = pen::put_decimal(text, number, place);
+    let end = pen::put_named(text, at, stop_word(stop), place);
     pen::put_word(text, end, b"\n")
 }
 
-// Adds the name of a stop.
-fn put_stop_word(text: &mut [u8], at: usize, stop: Stop) -> usize
-    ensures { (text.new, result) ≡ adds_all (text.old, at) (stop_word (stop_of stop)) }
+// The name of a stop.
+fn stop_word(stop: Stop) -> &'static [u8]
+    ensures { result.now ≡ stop_word (stop_of stop) }
 {
     match stop {
-        Stop::Out => pen::put_word(text, at, b"stop out "),
-        Stop::End => pen::put_word(text, at, b"stop end "),
-        Stop::CutLength => pen::put_word(text, at, b"stop cut length "),
-        Stop::CutValue => pen::put_word(text, at, b"stop cut value "),
-        Stop::CutContinuation => pen::put_word(text, at, b"stop cut continuation "),
+        Stop::Out => b"stop out ",
+        Stop::End => b"stop end ",
+        Stop::CutLength => b"stop cut length ",
+        Stop::CutValue => b"stop cut value ",
+        Stop::CutContinuation => b"stop cut continuation ",
     }
 }

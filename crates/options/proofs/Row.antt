@@ -17,9 +17,10 @@ use Rattle.rfc.specs.Writing.{encode, size_in_parts, answer_to, write_bytes}
 use Rattle.rfc.proofs.Numbers.{Clear, here, later, done, next, pad-code, end-code, a_code, much, not_much, not_too_much}
 use Rattle.rfc.proofs.Alike.{none, both, passes_left, as_bytes}
 use Rattle.rfc.proofs.Writing.{Alike, length_encode, encode_empty, encode_once, checks_refuse, clear_8, clear_given, given_clear, given_to, given_fits, given_left}
-use Rattle.encoder.specs.Written.{says, Wrote}
-use Rattle.encoder.specs.declared.Written.{Written}
-use Rattle.encoder.specs.declared.Written.TheVariants as written
+use Rattle.std.specs.Prelude.{Result, Ok, Err}
+use Rattle.refusal.specs.declared.Refusal.{Refusal}
+use Rattle.refusal.specs.Told.{told}
+use Rattle.encoder.specs.Written.{Wrote}
 use Rattle.encoder.proofs.Answers.{writes}
 use Rattle.options.specs.Rows.{outside, not_code, write_row, Fitting}
 
@@ -112,12 +113,11 @@ module _ (code start len : ℕ) (values room : List ℕ) (place : ℕ) where
         unfolding write_row
         takes = length_row
 
-        pub row_ends : (r : Written) (to : ℕ) → Fitting room to r → to ≡ place + size_in_parts most_part len
-            → says r ≡ answer_to (write_row code start len values) room place
-        row_ends (written.To end) to f e =
+        pub row_ends : (r : Result ℕ Refusal) (to : ℕ) → Fitting room to r → to ≡ place + size_in_parts most_part len
+            → told r ≡ answer_to (write_row code start len values) room place
+        row_ends (Ok end) to f e =
             ap (λ (k : ℕ). given k) (omega (arith, f.0, takes)) ∙ sym (clear_given _ room place clear (omega (arith, f.1, takes)))
-        row_ends (written.Refused number) to f e =
-            ap (λ (k : ℕ). refused k) f.0 ∙ sym (clear_8 _ room place clear (omega (arith, f.1, takes)))
+        row_ends (Err refusal) to f e = ap told (ap Err f.0) ∙ sym (clear_8 _ room place clear (omega (arith, f.1, takes)))
 
   -- a row that is not refused
   module _ {to : ℕ} (e : answer_to (write_row code start len values) room place ≡ given to) where
@@ -139,38 +139,43 @@ module _ (code start len : ℕ) (values room : List ℕ) (place : ℕ) where
     pub passed_short : len ≤ most_value
     passed_short = omega (arith, length_value passed_inside, not_too_much value tests.2)
 
-    pub passed_fits : place + length (encode most_part code value) ≤ length room
+    -- as the code has it, by its two ends
+    abbrev slice : List ℕ
+    slice = take (start + len - start) (drop start values)
+
+    slice_is : slice ≡ value
+    slice_is = let n : start + len - start ≡ len = omega arith in ap (λ (k : ℕ). take k (drop start values)) n
+
+    pub length_slice : length slice ≡ len
+    length_slice = ap length slice_is ∙ length_value passed_inside
+
+    slice_takes : length (encode most_part code slice) ≡ size_in_parts most_part len
+    slice_takes = ap (λ (v : List ℕ). length (encode most_part code v)) slice_is ∙ length_row passed_inside
+
+    pub passed_fits : place + length (encode most_part code slice) ≤ length room
     unfolding write_row
-    passed_fits = given_fits _ room place to e
+    passed_fits =
+        let same = ap (λ (v : List ℕ). length (encode most_part code v)) slice_is in omega (arith, same, given_fits _ room place to e)
 
     pub passed_takes : place + size_in_parts most_part len ≤ length room
-    passed_takes = omega (arith, passed_fits, length_row passed_inside)
+    passed_takes = omega (arith, passed_fits, slice_takes)
 
-    -- and it is written where its bytes are put
+    -- and it is written where its bytes are put: in its parts, as one part, or with none
     module _ {end : ℕ} (ends : end ≡ place + size_in_parts most_part len) where
-      pub passed_put : {room' : List ℕ} → room' ≡ over room place (encode most_part code value)
-          → Wrote (write_row code start len values) room room' place (written.To end)
+      pub passed_parts : {room' : List ℕ} → room' ≡ over room place (encode most_part code slice)
+          → Wrote (write_row code start len values) room room' place (Ok end)
       unfolding write_row
-      passed_put p =
-          writes _ room place _ _ (e ∙ ap given (given_to _ room place to e ∙ omega (arith, length_row passed_inside)))
-          (given_left _ room place to e ∙ sym p)
-
-      -- by the two ends of its value; as one part; and with none
-      pub passed_parts : {room' : List ℕ} → room' ≡ over room place (encode most_part code (take (start + len - start) (drop start values)))
-          → Wrote (write_row code start len values) room room' place (written.To end)
       passed_parts p =
-          let n : start + len - start ≡ len = omega arith in
-          passed_put (p ∙ ap (λ (k : ℕ). over room place (encode most_part code (take k (drop start values)))) n)
+          writes _ room place _ _ (e ∙ ap given (given_to _ room place to e ∙ omega (arith, length_row passed_inside)))
+          (given_left _ room place to e ∙ sym (p ∙ ap (λ (v : List ℕ). over room place (encode most_part code v)) slice_is))
 
-      pub passed_part : {room' : List ℕ} → 0 < len → len ≤ most_part → room' ≡ over room place (code ∷ len ∷ value)
-          → Wrote (write_row code start len values) room room' place (written.To end)
+      pub passed_part : {room' : List ℕ} → 0 < len → len ≤ most_part → room' ≡ over room place (code ∷ length slice ∷ slice)
+          → Wrote (write_row code start len values) room room' place (Ok end)
       passed_part h g p =
-          let l = length_value passed_inside in
-          let once : code ∷ len ∷ value ≡ encode most_part code value =
-          ap (λ (n : ℕ). code ∷ n ∷ value) (sym l) ∙ sym (encode_once most_part code value (omega (arith, l)) (omega (arith, l))) in
-          passed_put (p ∙ ap (over room place) once)
+          let l = length_slice in
+          passed_parts (p ∙ ap (over room place) (sym (encode_once most_part code slice (omega (arith, l)) (omega (arith, l)))))
 
-      pub passed_none : len ≡ 0 → Wrote (write_row code start len values) room room place (written.To end)
+      pub passed_none : len ≡ 0 → Wrote (write_row code start len values) room room place (Ok end)
       passed_none h =
-          let none : encode most_part code value ≡ [] = encode_empty most_part (lit< tt) code value (length_value passed_inside ∙ h) in
-          passed_put (sym (ap (over room place) none ∙ over_nil room place))
+          let none : encode most_part code slice ≡ [] = encode_empty most_part (lit< tt) code slice (length_slice ∙ h) in
+          passed_parts (sym (ap (over room place) none ∙ over_nil room place))

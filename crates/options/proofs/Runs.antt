@@ -2,7 +2,7 @@
 -- Both passes go the same way: the one that judges writes nothing, and of a room only its length decides.
 -- Assumes nothing.
 use mathlib.Core.Path.{◌≡◌, refl, sym, ap, ◌∙◌, subst}
-use Prim.Native.Nat.{ℕ, suc, ◌+◌, ◌-◌, ◌*◌, ◌≤◌, ◌<◌}
+use Prim.Native.Nat.{ℕ, suc, ◌+◌, ◌*◌, ◌/◌, ◌≤◌, ◌<◌}
 use mathlib.Core.List.{List, [], ◌∷◌}
 use native.Mathlib.Numerals.{add-one}
 use native.Mathlib.Omega.{arith}
@@ -12,11 +12,15 @@ use Rattle.rfc.specs.Numbers.{Answer, given, refused, needs, most_bytes}
 use Rattle.rfc.specs.Writing.{Write, answer_to, room_after}
 use Rattle.rfc.proofs.Numbers.{here, later, refuses, done, next, clears, long, not_long, past, not_past}
 use Rattle.rfc.proofs.Writing.{given_to, given_fits, given_keeps, never_needs, same_answer}
-use Rattle.encoder.specs.Written.{says, Wrote}
-use Rattle.encoder.specs.declared.Written.{Written}
-use Rattle.encoder.specs.declared.Written.TheVariants as written
-use Rattle.options.specs.Rows.{write_row, Outcome, all, stuck, or_stuck, rows_from, write_rows, answer_of, room_of, WroteRows, AllPass}
-use Rattle.options.specs.declared.rows.RowsWritten.TheVariants.{To, Refused}
+use Rattle.std.specs.Prelude.{Result, Ok, Err, MatchResult, IsErrAnd}
+use Rattle.refusal.specs.declared.Refusal.{Refusal}
+use Rattle.refusal.specs.declared.Refusal.TheVariants.{TooLong, PastEnd}
+use Rattle.refusal.specs.Told.{says, told}
+use Rattle.refusal.proofs.Told.{told_one}
+use Rattle.encoder.specs.Written.{Wrote}
+use Rattle.options.specs.declared.rows.RowsWritten.{RowsWritten}
+use Rattle.options.specs.declared.rows.RowRefused.{RowRefused}
+use Rattle.options.specs.Rows.{write_row, row_at, write_of, Outcome, all, stuck, or_stuck, rows_from, write_rows, answer_of, room_of, rows_told, WroteRows, InRoom, Passes, AllPass}
 
 -- the next three numbers
 next_three : (l : List ℕ) (k : ℕ) → k + 3 ≤ length l
@@ -57,120 +61,138 @@ module _ (index code start len : ℕ) (rows values room : List ℕ) (at : ℕ) w
   unfolding or_stuck
   row_decides e = first_row e
 
--- the write of the row whose numbers stand at k
-abbrev pub row_at : List ℕ → ℕ → List ℕ → Write
-row_at rows k values = write_row (get_or rows k 0) (get_or rows (k + 1) 0) (get_or rows (k + 2) 0) values
-
--- a run has come to a place, with `index` rows of three numbers each behind it: what is left gives, from there, the same outcome
-pub record Reached (rows values room₀ : List ℕ) (place : ℕ) (room : List ℕ) (at k index : ℕ) : Type 0 where
-  pub same : rows_from index (drop k rows) values room at ≡ rows_from 0 rows values room₀ place
-  pub threes : k ≡ 3 * index
-  pub inside : k ≤ length rows
+-- a run has come to a place, with `index` rows behind it: what is left gives, from there, the same outcome
+pub record Reached (rows values room₀ : List ℕ) (place : ℕ) (room : List ℕ) (at index : ℕ) : Type 0 where
+  pub same : rows_from index (drop (3 * index) rows) values room at ≡ rows_from 0 rows values room₀ place
   pub keeps : length room ≡ length room₀
   pub within : at ≤ length room
 
 -- the same in a room of which only the length is known, as where nothing is written yet
-pub record Judged (rows values room₀ : List ℕ) (place at k index : ℕ) : Type 0 where
+pub record Judged (rows values room₀ : List ℕ) (place at index : ℕ) : Type 0 where
   pub would : List ℕ
-  pub reached : Reached rows values room₀ place would at k index
+  pub reached : Reached rows values room₀ place would at index
 
-pub reached_none : {rows values room : List ℕ} {place : ℕ} → place ≤ length room → Reached rows values room place room place 0 0
-reached_none h = record { same = refl; threes = refl; inside = omega arith; keeps = refl; within = h }
+pub reached_none : {rows values room : List ℕ} {place : ℕ} → place ≤ length room → Reached rows values room place room place 0
+reached_none h = record { same = refl; keeps = refl; within = h }
 
-module _ {rows values room₀ room : List ℕ} {place at k index : ℕ} (reached : Reached rows values room₀ place room at k index) where
-  pub reached_all : length rows - k < 3 → all index room at ≡ rows_from 0 rows values room₀ place
-  reached_all h = sym (no_row index (drop k rows) values room at (omega (arith, length-drop k rows))) ∙ reached.same
+module _ {rows values room₀ room : List ℕ} {place at index : ℕ} (reached : Reached rows values room₀ place room at index) where
+  pub reached_all : length rows / 3 ≤ index → all index room at ≡ rows_from 0 rows values room₀ place
+  reached_all h =
+      sym (no_row index (drop (3 * index) rows) values room at (omega (arith, length-drop (3 * index) rows))) ∙ reached.same
 
-  module _ (h : k + 3 ≤ length rows) where
-    abbrev row : Write
-    row = row_at rows k values
+  module _ (h : index < length rows / 3) where
+    abbrev write : Write
+    write = write_of (row_at rows index) values
 
     -- the rows from there on
-    these : rows_from index (get_or rows k 0 ∷ get_or rows (k + 1) 0 ∷ get_or rows (k + 2) 0 ∷ drop (k + 3) rows) values room at
+    these : rows_from index ((row_at rows index).code ∷ (row_at rows index).start ∷ (row_at rows index).len ∷ drop (3 * index + 3) rows) values room at
         ≡ rows_from 0 rows values room₀ place
-    these = ap (λ (l : List ℕ). rows_from index l values room at) (sym (next_three rows k h)) ∙ reached.same
+    these = ap (λ (l : List ℕ). rows_from index l values room at) (sym (next_three rows (3 * index) (omega arith))) ∙ reached.same
 
     -- a row that is written
-    pub reached_more : {to : ℕ} → answer_to row room at ≡ given to
-        → Reached rows values room₀ place (room_after row room at) to (k + 3) (index + 1)
+    pub reached_more : {to : ℕ} → answer_to write room at ≡ given to → Reached rows values room₀ place (room_after write room at) to (index + 1)
     reached_more {to} e =
+        let next : 3 * (index + 1) ≡ 3 * index + 3 = omega arith in
         record {
           same =
-              ap (λ (n : ℕ). rows_from n (drop (k + 3) rows) values (room_after row room at) to) (add-one index)
-              ∙ sym (row_goes_on index _ _ _ (drop (k + 3) rows) values room at e)
+              ap (λ (k : ℕ). rows_from (index + 1) (drop k rows) values (room_after write room at) to) next
+              ∙ ap (λ (n : ℕ). rows_from n (drop (3 * index + 3) rows) values (room_after write room at) to) (add-one index)
+              ∙ sym (row_goes_on index _ _ _ (drop (3 * index + 3) rows) values room at e)
               ∙ these;
-          threes = omega arith;
-          inside = h;
-          keeps = given_keeps row room at to e ∙ reached.keeps;
-          within = omega (arith, given_to row room at to e, given_fits row room at to e, given_keeps row room at to e);
+          keeps = given_keeps write room at to e ∙ reached.keeps;
+          within = omega (arith, given_to write room at to e, given_fits write room at to e, given_keeps write room at to e);
         }
 
     -- a row that is refused
-    pub reached_stuck : {number : ℕ} → answer_to row room at ≡ refused number → stuck index number ≡ rows_from 0 rows values room₀ place
-    reached_stuck e = sym (row_decides index _ _ _ (drop (k + 3) rows) values room at e) ∙ these
+    pub reached_stuck : {number : ℕ} → answer_to write room at ≡ refused number → stuck index number ≡ rows_from 0 rows values room₀ place
+    reached_stuck e = sym (row_decides index _ _ _ (drop (3 * index + 3) rows) values room at e) ∙ these
 
     -- where no row is refused, this one is not
-    pub reached_passes : {count : ℕ} {room' : List ℕ} {to : ℕ} → rows_from 0 rows values room₀ place ≡ all count room' to
-        → (then : ℕ) × (answer_to row room at ≡ given then)
-    reached_passes {count} {room'} {to} passes = go (answer_to row room at) refl
+    pub reached_passes : AllPass rows values room₀ place → Passes (row_at rows index) values room at
+    reached_passes pass = go (answer_to write room at) refl
       where
-        go : (a : Answer ℕ) → answer_to row room at ≡ a → (then : ℕ) × (answer_to row room at ≡ given then)
-        go (given then) e = (then, e)
-        go (refused number) e = absurd (let f = reached_stuck e ∙ passes in let z : ◌≡◌ {A = ℕ} 0 1 = cc in omega arith)
-        go (needs n) e = absurd (never_needs row room at n e)
+        in_room : InRoom room at
+        in_room = record { short = omega (arith, pass.in_room.short, reached.keeps); within = reached.within }
+
+        go : (a : Answer ℕ) → answer_to write room at ≡ a → Passes (row_at rows index) values room at
+        go (given to) e = record { in_room = in_room; to = to; passes = e }
+        go (refused number) e = absurd (let f = reached_stuck e ∙ pass.passes in cc)
+        go (needs n) e = absurd (never_needs write room at n e)
+
+-- a row's answer, and the same with the row's index beside a refusal
+abbrev pub Named : ℕ → Result ℕ Refusal → Result ℕ RowRefused → Type 0
+Named index r named =
+    MatchResult r (λ to. named ≡ Ok to) (λ e. IsErrAnd named (λ f. f ≡ record { row = index; refusal = e }))
+
+was_given : (index : ℕ) (r : Result ℕ Refusal) {to : ℕ} → Named index r (Ok to) → r ≡ Ok to
+was_given index (Ok x) h = cc
+was_given index (Err e) h = absurd h
+
+was_refused : (index : ℕ) (r : Result ℕ Refusal) {f : RowRefused} → Named index r (Err f)
+    → (r ≡ Err f.refusal) × (f.row ≡ index)
+was_refused index (Ok x) h = absurd cc
+was_refused index (Err e) h = (ap (λ (g : RowRefused). Err g.refusal) (sym h), ap (λ (g : RowRefused). g.row) h)
 
 -- where nothing is written yet, by what a write would answer
-module _ {rows values room₀ : List ℕ} {place at k index : ℕ} (judged : Judged rows values room₀ place at k index) where
-  pub judged_end : length rows - k < 3 → To index at ≡ answer_of (rows_from 0 rows values room₀ place)
+module _ {rows values room₀ : List ℕ} {place at index : ℕ} (judged : Judged rows values room₀ place at index) where
+  pub judged_end : length rows / 3 ≤ index → Ok (index, at) ≡ answer_of (rows_from 0 rows values room₀ place)
   judged_end h = ap answer_of (reached_all judged.reached h)
 
-  module _ (h : k + 3 ≤ length rows) {r : Written} (says_so : says r ≡ answer_to (row_at rows k values) room₀ at) where
-    answers : {q : Written} → r ≡ q → answer_to (row_at rows k values) judged.would at ≡ says q
-    answers e = same_answer _ _ _ room₀ judged.reached.keeps ∙ sym says_so ∙ ap says e
+  module _ (h : index < length rows / 3) (r : Result ℕ Refusal) (tells : told r ≡ answer_to (write_of (row_at rows index) values) room₀ at) where
+    answers : {q : Result ℕ Refusal} → r ≡ q → answer_to (write_of (row_at rows index) values) judged.would at ≡ told q
+    answers e = same_answer _ _ _ room₀ judged.reached.keeps ∙ sym tells ∙ ap told e
 
-    pub judged_more : {to : ℕ} → r ≡ written.To to → Judged rows values room₀ place to (k + 3) (index + 1)
-    judged_more e = record { would = _; reached = reached_more judged.reached h (answers e) }
+    pub judged_more : {to : ℕ} → Named index r (Ok to) → Judged rows values room₀ place to (index + 1)
+    judged_more n = record { would = _; reached = reached_more judged.reached h (answers (was_given index r n)) }
 
-    pub judged_at : {number : ℕ} → r ≡ written.Refused number → Refused index number ≡ answer_of (rows_from 0 rows values room₀ place)
-    judged_at e = ap answer_of (reached_stuck judged.reached h (answers e))
+    pub judged_at : (f : RowRefused) → Named index r (Err f) → rows_told (Err f) ≡ answer_of (rows_from 0 rows values room₀ place)
+    judged_at f n =
+        let was = was_refused index r n in ap (λ (k : ℕ). Err (k, says f.refusal)) was.1 ∙ go was.0 _ refl
+      where
+        go : r ≡ Err f.refusal → (a : Answer ℕ) → answer_to (write_of (row_at rows index) values) judged.would at ≡ a
+            → Err (index, says f.refusal) ≡ answer_of (rows_from 0 rows values room₀ place)
+        go is (given to) e = absurd (let z = told_one (Err f.refusal) (Ok to) (sym (answers is) ∙ e) in cc)
+        go is (refused number) e =
+            ap (λ (a : Answer ℕ). Err (index, a)) (sym (answers is) ∙ e) ∙ ap answer_of (reached_stuck judged.reached h e)
+        go is (needs n) e = absurd (never_needs _ judged.would at n e)
 
 -- the same by what a write answers and leaves
-pub written_more : {rows values room₀ room room' : List ℕ} {place at k index to : ℕ} → Reached rows values room₀ place room at k index
-    → k + 3 ≤ length rows → Wrote (row_at rows k values) room room' at (written.To to)
-    → Reached rows values room₀ place room' to (k + 3) (index + 1)
-written_more {rows} {values} {room₀} {room} {room'} {place} {at} {k} {index} {to} reached h w =
-    subst (λ (r : List ℕ). Reached rows values room₀ place r to (k + 3) (index + 1)) (sym w.left) (reached_more reached h (sym w.told))
+pub written_more : {rows values room₀ room room' : List ℕ} {place at index to : ℕ} → Reached rows values room₀ place room at index
+    → index < length rows / 3 → Wrote (write_of (row_at rows index) values) room room' at (Ok to)
+    → Reached rows values room₀ place room' to (index + 1)
+written_more {rows} {values} {room₀} {room} {room'} {place} {at} {index} {to} reached h w =
+    subst (λ (r : List ℕ). Reached rows values room₀ place r to (index + 1)) (sym w.left) (reached_more reached h (sym w.tells))
 
-pub written_all : {rows values room₀ room : List ℕ} {place at k index : ℕ} → Reached rows values room₀ place room at k index
-    → length rows - k < 3 → room ≡ room_of (rows_from 0 rows values room₀ place) room₀
+pub written_all : {rows values room₀ room : List ℕ} {place at index : ℕ} → Reached rows values room₀ place room at index
+    → length rows / 3 ≤ index → room ≡ room_of (rows_from 0 rows values room₀ place) room₀
 written_all {room₀ = room₀} reached h = ap (λ (o : Outcome). room_of o room₀) (reached_all reached h)
 
 -- what was judged, back from its answer
-judged_all : (o : Outcome) {count to : ℕ} → To count to ≡ answer_of o → (room : List ℕ) × (o ≡ all count room to)
-judged_all (all n room place) e = (room, cc)
-judged_all (stuck row number) e = absurd (let z : ◌≡◌ {A = ℕ} 0 1 = cc in omega arith)
-
-judged_stuck : (o : Outcome) {row number : ℕ} → Refused row number ≡ answer_of o → o ≡ stuck row number
-judged_stuck (all n room place) e = absurd (let z : ◌≡◌ {A = ℕ} 0 1 = cc in omega arith)
-judged_stuck (stuck row number) e = cc
+judged_all : (o : Outcome) (count to : ℕ) → Ok (count, to) ≡ answer_of o → (room : List ℕ) × (o ≡ all count room to)
+judged_all (all n room end) count to e = (room, let f : ◌≡◌ {A = ℕ × ℕ} (count, to) (n, end) = cc in ap (λ p. all p.0 room p.1) (sym f))
+judged_all (stuck index number) count to e = absurd cc
 
 -- one call, by its checks
 module _ (rows values room : List ℕ) (place : ℕ) where
   -- a refusal changes nothing
-  stuck_wrote : {row number : ℕ} → write_rows rows values room place ≡ stuck row number
-      → WroteRows rows values room room place (Refused row number)
-  stuck_wrote e = record { told = sym (ap answer_of e); left = sym (ap (λ (o : Outcome). room_of o room) e) }
+  stuck_wrote : (o : Outcome) (r : RowRefused) → write_rows rows values room place ≡ o → rows_told (Err r) ≡ answer_of o
+      → WroteRows rows values room room place (Err r)
+  stuck_wrote (all count room' to) r e t = absurd cc
+  stuck_wrote (stuck index number) r e t =
+      record { tells = t ∙ sym (ap answer_of e); left = sym (ap (λ (o : Outcome). room_of o room) e) }
 
-  pub rows_2 : most_bytes < length room → WroteRows rows values room room place (Refused 0 2)
+  pub rows_2 : most_bytes < length room → WroteRows rows values room room place (Err (record { row = 0; refusal = TooLong }))
   unfolding write_rows or_stuck
-  rows_2 a = stuck_wrote (ap (λ (x : Answer ℕ). or_stuck 0 x (rows_from 0 rows values room)) (refuses _ (here (long room a))))
+  rows_2 a =
+      stuck_wrote (stuck 0 2) _ (ap (λ (x : Answer ℕ). or_stuck 0 x (rows_from 0 rows values room)) (refuses _ (here (long room a)))) refl
 
   module _ (a : length room ≤ most_bytes) where
-    pub rows_4 : length room < place → WroteRows rows values room room place (Refused 0 4)
+    pub rows_4 : length room < place → WroteRows rows values room room place (Err (record { row = 0; refusal = PastEnd }))
     unfolding write_rows or_stuck
     rows_4 b =
-        stuck_wrote
+        stuck_wrote (stuck 0 4) _
         (ap (λ (x : Answer ℕ). or_stuck 0 x (rows_from 0 rows values room)) (refuses _ (later (not_long room a) (here (past place room b)))))
+        refl
 
     -- else the rows decide
     module _ (b : place ≤ length room) where
@@ -180,16 +202,33 @@ module _ (rows values room : List ℕ) (place : ℕ) where
           ap (λ (x : Answer ℕ). or_stuck 0 x (rows_from 0 rows values room))
           (clears _ (next (not_long room a) (next (not_past place room b) done)))
 
-      pub rows_stuck : {row number : ℕ} → Refused row number ≡ answer_of (rows_from 0 rows values room place)
-          → WroteRows rows values room room place (Refused row number)
-      rows_stuck e = stuck_wrote (rows_decide ∙ judged_stuck _ e)
+      pub rows_stuck : {r : RowRefused} → rows_told (Err r) ≡ answer_of (rows_from 0 rows values room place)
+          → WroteRows rows values room room place (Err r)
+      rows_stuck {r} e = stuck_wrote _ r rows_decide e
 
-      pub rows_pass : {count to : ℕ} → To count to ≡ answer_of (rows_from 0 rows values room place) → AllPass rows values room place
-      rows_pass {count} {to} e =
-          let j = judged_all _ e in
-          record { in_room = record { short = a; within = b }; count = count; room' = j.0; to = to; passes = j.1 }
+      module _ (w : RowsWritten) (e : rows_told (Ok w) ≡ answer_of (rows_from 0 rows values room place)) where
+        pub rows_pass : AllPass rows values room place
+        rows_pass =
+            let j = judged_all _ w.rows w.place e in
+            record { in_room = record { short = a; within = b }; count = w.rows; room' = j.0; to = w.place; passes = j.1 }
 
-      pub rows_all : {count to : ℕ} → To count to ≡ answer_of (rows_from 0 rows values room place) → {room' : List ℕ}
-          → room' ≡ room_of (rows_from 0 rows values room place) room → WroteRows rows values room room' place (To count to)
-      rows_all e l =
-          record { told = e ∙ sym (ap answer_of rows_decide); left = l ∙ sym (ap (λ (o : Outcome). room_of o room) rows_decide) }
+        pub rows_all : {room' : List ℕ} → room' ≡ room_of (rows_from 0 rows values room place) room
+            → WroteRows rows values room room' place (Ok w)
+        rows_all l =
+            record {
+              tells = e ∙ sym (ap answer_of rows_decide);
+              left = l ∙ sym (ap (λ (o : Outcome). room_of o room) rows_decide);
+            }
+
+-- two answers that tell the same are the same
+pub rows_one : (r q : Result RowsWritten RowRefused) → rows_told r ≡ rows_told q → r ≡ q
+rows_one (Ok w) (Ok v) e =
+    let f : ◌≡◌ {A = ℕ × ℕ} (w.rows, w.place) (v.rows, v.place) = cc in ap (λ p. Ok (record { rows = p.0; place = p.1 })) f
+rows_one (Ok w) (Err f) e = absurd cc
+rows_one (Err f) (Ok w) e = absurd cc
+rows_one (Err f) (Err g) e =
+    let p : ◌≡◌ {A = ℕ × Answer ℕ} (f.row, says f.refusal) (g.row, says g.refusal) = cc in
+    let same : Err f.refusal ≡ Err g.refusal = told_one (Err f.refusal) (Err g.refusal) (ap (λ x. x.1) p) in
+    let row : f.row ≡ g.row = ap (λ x. x.0) p in
+    let both : ◌≡◌ {A = ℕ × Refusal} (f.row, f.refusal) (g.row, g.refusal) = cc in
+    ap (λ x. Err (record { row = x.0; refusal = x.1 })) both

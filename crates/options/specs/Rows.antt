@@ -1,13 +1,15 @@
 -- Options written in one call, all of them or none, each from a row of three numbers: its code, and where its value stands in the lent
 -- values and how long it is.
 -- Assumes nothing.
-use Rattle.std.specs.Prelude.{ℕ, suc, ◌+◌, ◌≤◌, ◌<◌, ◌≡◌, Bool, ◌||◌, List, [], ◌∷◌, ltb, length, take, drop}
+use Rattle.std.specs.Prelude.{ℕ, suc, ◌+◌, ◌*◌, ◌≤◌, ◌<◌, ◌≡◌, Bool, ◌||◌, List, [], ◌∷◌, ltb, length, take, drop, slice_index, Result, Ok, Err}
 use Rattle.rfc.specs.Numbers.{Answer, given, refused, needs, check, checked, most_bytes, most_part, too_long, past_end, no_code, too_much}
 use Rattle.rfc.specs.Writing.{Write, encode, answer_to, room_after}
-use Rattle.encoder.specs.declared.Written.{Written}
-use Rattle.encoder.specs.declared.Written.TheVariants as written
+use Rattle.refusal.specs.declared.Refusal.{Refusal}
+use Rattle.refusal.specs.declared.Refusal.TheVariants.{NoRoom}
+use Rattle.refusal.specs.Told.{says}
+use Rattle.options.specs.declared.rows.Row.{Row}
 use Rattle.options.specs.declared.rows.RowsWritten.{RowsWritten}
-use Rattle.options.specs.declared.rows.RowsWritten.TheVariants.{To, Refused}
+use Rattle.options.specs.declared.rows.RowRefused.{RowRefused}
 
 -- 4: the value does not stand in the lent values
 unfoldable pub outside : ℕ → ℕ → List ℕ → Bool
@@ -56,10 +58,15 @@ unfoldable pub write_rows : List ℕ → List ℕ → List ℕ → ℕ → Outco
 write_rows rows values room place =
     or_stuck 0 (checked (check (too_long room) 2 ∷ check (past_end place room) 4 ∷ []) (given place)) (rows_from 0 rows values room)
 
--- what is answered
-abbrev pub answer_of : Outcome → RowsWritten
-answer_of (all count room place) = To count place
-answer_of (stuck row number) = Refused row number
+-- what is answered: how many rows and the place behind them, or the index of a row and what refuses it
+abbrev pub answer_of : Outcome → Result (ℕ × ℕ) (ℕ × Answer ℕ)
+answer_of (all count room place) = Ok (count, place)
+answer_of (stuck row number) = Err (row, refused number)
+
+-- and what an answer of the code tells
+abbrev pub rows_told : Result RowsWritten RowRefused → Result (ℕ × ℕ) (ℕ × Answer ℕ)
+rows_told (Ok w) = Ok (w.rows, w.place)
+rows_told (Err r) = Err (r.row, says r.refusal)
 
 -- what the room then holds: where a row is refused, nothing changes
 abbrev pub room_of : Outcome → List ℕ → List ℕ
@@ -67,25 +74,34 @@ room_of (all count room' place) room = room'
 room_of (stuck row number) room = room
 
 -- rows written at a place, from a room to a room', answer r
-pub record WroteRows (rows values room room' : List ℕ) (place : ℕ) (r : RowsWritten) : Type 0 where
-  pub told : r ≡ answer_of (write_rows rows values room place)
+pub record WroteRows (rows values room room' : List ℕ) (place : ℕ) (r : Result RowsWritten RowRefused) : Type 0 where
+  pub tells : rows_told r ≡ answer_of (write_rows rows values room place)
   pub left : room' ≡ room_of (write_rows rows values room place) room
 
--- Between the functions of the crate: a place of a room that is not too long
+-- Between the functions of the crate: the row of an index
+abbrev pub row_at : List ℕ → ℕ → Row
+row_at rows index =
+    record { code = slice_index rows (3 * index); start = slice_index rows (3 * index + 1); len = slice_index rows (3 * index + 2) }
+
+-- its write
+abbrev pub write_of : Row → List ℕ → Write
+write_of row values = write_row row.code row.start row.len values
+
+-- a place of a room that is not too long
 pub record InRoom (room : List ℕ) (place : ℕ) : Type 0 where
   pub short : length room ≤ most_bytes
   pub within : place ≤ length room
 
 -- 8, or the place behind a write that ends at `to`
-abbrev pub Fitting : List ℕ → ℕ → Written → Type 0
-Fitting room to (written.To end) = (end ≡ to) × (to ≤ length room)
-Fitting room to (written.Refused number) = (number ≡ 8) × (length room < to)
+abbrev pub Fitting : List ℕ → ℕ → Result ℕ Refusal → Type 0
+Fitting room to (Ok end) = (end ≡ to) × (to ≤ length room)
+Fitting room to (Err e) = (e ≡ NoRoom) × (length room < to)
 
 -- the write of a row there is not refused
-pub record Passes (code start len : ℕ) (values room : List ℕ) (place : ℕ) : Type 0 where
+pub record Passes (row : Row) (values room : List ℕ) (place : ℕ) : Type 0 where
   pub in_room : InRoom room place
   pub to : ℕ
-  pub passes : answer_to (write_row code start len values) room place ≡ given to
+  pub passes : answer_to (write_of row values) room place ≡ given to
 
 -- nor is any row
 pub record AllPass (rows values room : List ℕ) (place : ℕ) : Type 0 where

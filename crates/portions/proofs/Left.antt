@@ -6,13 +6,15 @@ use native.Mathlib.Omega.{arith}
 use mathlib.Core.List.{List, [], ◌∷◌}
 use lib.ListN.{length, drop, length-drop}
 use lib.Seq.{drop-drop}
-use mathlib.Core.Logic.{◌⊎◌, ⊎_elim}
+use Rattle.std.specs.Result.{IsOk}
+use Rattle.std.specs.Prelude.{Option, Some, None, Result, Ok, Err}
 use Rattle.rfc.specs.Portions as rfc
 use Rattle.rfc.specs.Portions.{Portion, portion, next_portion, cut_field, whole, ahead, portions}
 use Rattle.rfc.proofs.Portions.{stands, ended, is-cut, one_part, ahead_is}
 use Rattle.portions.specs.Told.{next_of}
-use Rattle.portions.specs.declared.Next.{Next}
-use Rattle.portions.specs.declared.Next.TheVariants.{Ended, Cut, Part}
+use Rattle.refusal.specs.declared.Refusal.{Refusal}
+use Rattle.refusal.specs.declared.Refusal.TheVariants.{FieldCut}
+use Rattle.portions.specs.declared.Portion as numbers
 
 -- the first part of what is left of a field, by its numbers, in front of what stands behind its place
 pub record FirstPart (bytes : List ℕ) (at code len place : ℕ) : Type 0 where
@@ -23,35 +25,44 @@ pub record FirstPart (bytes : List ℕ) (at code len place : ℕ) : Type 0 where
   pub is : portions at (drop at bytes) ≡ ahead (portion code value place) (portions place (drop place bytes))
 
 -- what is left of a field, by what a call answers there
-module _ (bytes : List ℕ) (at : ℕ) {r : Next} (told : r ≡ next_of (next_portion at (drop at bytes))) where
-  pub ended_left : r ≡ Ended → portions at (drop at bytes) ≡ whole []
+module _ (bytes : List ℕ) (at : ℕ) {r : Result (Option numbers.Portion) Refusal} (told : r ≡ next_of (next_portion at (drop at bytes))) where
+  pub ended_left : r ≡ Ok None → portions at (drop at bytes) ≡ whole []
   ended_left e = go (next_portion at (drop at bytes)) refl
     where
       go : (x : rfc.Next) → next_portion at (drop at bytes) ≡ x → portions at (drop at bytes) ≡ whole []
       go rfc.no_more w = ended at (drop at bytes) w
-      go rfc.cut_part w = absurd (let z : ◌≡◌ {A = ℕ} 0 1 = cc (ap next_of w) in omega arith)
-      go (rfc.next p l) w = absurd (let z : ◌≡◌ {A = ℕ} 0 1 = cc (ap next_of w) in omega arith)
+      go rfc.cut_part w = cc (ap next_of w)
+      go (rfc.next p l) w = cc (ap next_of w)
 
-  pub cut_left : r ≡ Cut → portions at (drop at bytes) ≡ cut_field
-  cut_left e = go (next_portion at (drop at bytes)) refl
+  pub cut_left : {f : Refusal} → r ≡ Err f → portions at (drop at bytes) ≡ cut_field
+  cut_left {f} e = go (next_portion at (drop at bytes)) refl
     where
       go : (x : rfc.Next) → next_portion at (drop at bytes) ≡ x → portions at (drop at bytes) ≡ cut_field
-      go rfc.no_more w = absurd (let z : ◌≡◌ {A = ℕ} 0 1 = cc (ap next_of w) in omega arith)
+      go rfc.no_more w = cc (ap next_of w)
       go rfc.cut_part w = is-cut at (drop at bytes) w
-      go (rfc.next p l) w = absurd (let z : ◌≡◌ {A = ℕ} 0 1 = cc (ap next_of w) in omega arith)
+      go (rfc.next p l) w = cc (ap next_of w)
 
-  pub first_part : {code len place : ℕ} → r ≡ Part code len place → FirstPart bytes at code len place
-  first_part {code} {len} {place} e = go (next_portion at (drop at bytes)) refl
+  pub cut_says : {f : Refusal} → r ≡ Err f → f ≡ FieldCut
+  cut_says {f} e = go (next_portion at (drop at bytes)) refl
     where
-      go : (x : rfc.Next) → next_portion at (drop at bytes) ≡ x → FirstPart bytes at code len place
-      go rfc.no_more w = absurd (let z : ◌≡◌ {A = ℕ} 0 1 = cc (ap next_of w) in omega arith)
-      go rfc.cut_part w = absurd (let z : ◌≡◌ {A = ℕ} 0 1 = cc (ap next_of w) in omega arith)
+      go : (x : rfc.Next) → next_portion at (drop at bytes) ≡ x → f ≡ FieldCut
+      go rfc.no_more w = cc (ap next_of w)
+      go rfc.cut_part w = cc (ap next_of w)
+      go (rfc.next p l) w = cc (ap next_of w)
+
+  pub first_part : {q : numbers.Portion} → r ≡ Ok (Some q) → FirstPart bytes at q.code q.len q.place
+  first_part {q} e = go (next_portion at (drop at bytes)) refl
+    where
+      go : (x : rfc.Next) → next_portion at (drop at bytes) ≡ x → FirstPart bytes at q.code q.len q.place
+      go rfc.no_more w = cc (ap next_of w)
+      go rfc.cut_part w = cc (ap next_of w)
       go (rfc.next p l) w =
           let s = stands at (drop at bytes) p l w in
-          let code_is : p.code ≡ code = cc (ap next_of w) in
-          let long : length p.value ≡ len = cc (ap next_of w) in
-          let place_is : p.place ≡ place = cc (ap next_of w) in
-          let from : l ≡ drop place bytes =
+          let one : numbers.Portion = record { code = p.code; len = length p.value; place = p.place } in
+          let same : one ≡ q = cc (ap next_of w) in
+          let long : length p.value ≡ q.len = ap (λ (t : numbers.Portion). t.len) same in
+          let place_is : p.place ≡ q.place = ap (λ (t : numbers.Portion). t.place) same in
+          let from : l ≡ drop q.place bytes =
           s.left ∙ drop-drop s.skip at bytes ∙ ap (λ (k : ℕ). drop k bytes) (s.far ∙ place_is) in
           record {
             value = p.value;
@@ -60,7 +71,7 @@ module _ (bytes : List ℕ) (at : ℕ) {r : Next} (told : r ≡ next_of (next_po
             within = omega (arith, s.far, s.room, s.within, length-drop at bytes);
             is =
                 one_part at (drop at bytes) p l w
-                ∙ (λ i. ahead (portion (code_is i) p.value (place_is i)) (portions (place_is i) (from i)));
+                ∙ (λ i. ahead (portion (same i).code p.value (place_is i)) (portions (place_is i) (from i)));
           }
 
 -- the first of the parts that are left, by its numbers, and the rest of them behind its place
@@ -73,12 +84,12 @@ pub record FirstLeft (bytes : List ℕ) (at : ℕ) (ps : List Portion) (code len
   pub within : place ≤ length bytes
   pub left : portions place (drop place bytes) ≡ whole rest
 
-module _ (bytes : List ℕ) (at : ℕ) (ps : List Portion) (left : portions at (drop at bytes) ≡ whole ps) (r : Next)
+module _ (bytes : List ℕ) (at : ℕ) (ps : List Portion) (left : portions at (drop at bytes) ≡ whole ps) (r : Result (Option numbers.Portion) Refusal)
     (told : r ≡ next_of (next_portion at (drop at bytes))) where
-  pub first_left : {code len place : ℕ} → r ≡ Part code len place → FirstLeft bytes at ps code len place
-  first_left {code} {len} {place} e =
+  pub first_left : {q : numbers.Portion} → r ≡ Ok (Some q) → FirstLeft bytes at ps q.code q.len q.place
+  first_left {q} e =
       let p = first_part bytes at told e in
-      let b = ahead_is (portion code p.value place) (portions place (drop place bytes)) ps (sym p.is ∙ left) in
+      let b = ahead_is (portion q.code p.value q.place) (portions q.place (drop q.place bytes)) ps (sym p.is ∙ left) in
       record {
         value = p.value;
         rest = b.others;
@@ -89,13 +100,15 @@ module _ (bytes : List ℕ) (at : ℕ) (ps : List Portion) (left : portions at (
         left = b.left;
       }
 
-  -- no more parts are left, where no part is answered
-  pub none_left : (r ≡ Ended) ⊎ (r ≡ Cut) → ps ≡ []
-  none_left t = go (next_portion at (drop at bytes)) refl
+  -- none of them is cut
+  pub left_ok : IsOk r
+  left_ok = go (next_portion at (drop at bytes)) refl
     where
-      go : (x : rfc.Next) → next_portion at (drop at bytes) ≡ x → ps ≡ []
-      go rfc.no_more w = let same : whole ps ≡ whole [] = sym left ∙ ended at (drop at bytes) w in cc
-      go rfc.cut_part w = absurd (let z : ◌≡◌ {A = ℕ} 0 1 = cc (is-cut at (drop at bytes) w) in omega arith)
-      go (rfc.next p l) w =
-          let e : r ≡ next_of (rfc.next p l) = told ∙ ap next_of w in
-          absurd (⊎_elim (λ a. let z : ◌≡◌ {A = ℕ} 0 1 = cc in omega arith) (λ a. let z : ◌≡◌ {A = ℕ} 0 1 = cc in omega arith) t)
+      go : (x : rfc.Next) → next_portion at (drop at bytes) ≡ x → IsOk r
+      go rfc.no_more w = rw (told, w) refl
+      go rfc.cut_part w = cc (is-cut at (drop at bytes) w)
+      go (rfc.next p l) w = rw (told, w) refl
+
+  -- no more parts are left, where no part is answered
+  pub none_left : r ≡ Ok None → ps ≡ []
+  none_left e = let same : whole ps ≡ whole [] = sym left ∙ ended_left bytes at told e in cc

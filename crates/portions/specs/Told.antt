@@ -1,16 +1,17 @@
 -- What the contracts of a field's parts say, over the definitions of `Rattle.rfc.specs.Portions`.
 -- Assumes nothing.
-use Rattle.std.specs.Prelude.{ℕ, ◌<◌, ◌≡◌, List, length, drop, get_or}
+use Rattle.std.specs.Prelude.{ℕ, ◌<◌, ◌≡◌, List, length, drop, get_or, Option, Some, None, Result, Ok, Err}
 use Rattle.rfc.specs.Numbers.{pad_code}
 use Rattle.rfc.specs.Portions as rfc
-use Rattle.portions.specs.declared.Next.{Next}
-use Rattle.portions.specs.declared.Next.TheVariants.{Ended, Cut, Part}
+use Rattle.refusal.specs.declared.Refusal.{Refusal}
+use Rattle.refusal.specs.declared.Refusal.TheVariants.{FieldCut}
+use Rattle.portions.specs.declared.Portion.{Portion}
 
 -- what stands first, by its numbers
-abbrev pub next_of : rfc.Next → Next
-next_of rfc.no_more = Ended
-next_of rfc.cut_part = Cut
-next_of (rfc.next p rest) = Part p.code (length p.value) p.place
+abbrev pub next_of : rfc.Next → Result (Option Portion) Refusal
+next_of rfc.no_more = Ok None
+next_of rfc.cut_part = Err FieldCut
+next_of (rfc.next p rest) = Ok (Some (record { code = p.code; len = length p.value; place = p.place }))
 
 -- Between the functions of the crate: a place at which something stands, and no Pad
 pub record NoPad (bytes : List ℕ) (at : ℕ) : Type 0 where

@@ -5,24 +5,24 @@ ghost use Rattle.std.specs.Prelude.{◌≡◌, drop};
 ghost use Rattle.rfc.specs.Portions.{next_portion};
 ghost use Rattle.portions.specs.Told.{next_of, NoPad, PadsPassed};
 
-// What stands first from a place on.
-#[derive(Drop)]
-pub enum Next {
-    // No part: the End, or no byte at all, behind Pads.
-    Ended,
-    // A part whose length or value is not all there.
-    Cut,
-    // A whole part, and the place behind it: its value is the `len` bytes before.
-    Part { code: u8, len: usize, place: usize },
+use refusal::Refusal;
+
+// A whole part, and the place behind it: its value is the `len` bytes before.
+#[derive(Clone, Copy, Debug, PartialEq, Eq)]
+pub struct Portion {
+    pub code: u8,
+    pub len: usize,
+    pub place: usize,
 }
 
-// What stands first from `at` on, behind its Pads.
-pub fn portion_at(bytes: &[u8], at: usize) -> Next
+// The part that stands first from `at` on, behind Pads; none at the End, or where there is no byte. One whose length or value is not all
+// there cuts its field.
+pub fn portion_at(bytes: &[u8], at: usize) -> Result<Option<Portion>, Refusal>
     ensures { result ≡ next_of (next_portion at (drop at bytes.now)) }
 {
     let i = skip_pads(bytes, at);
     if i >= bytes.len() {
-        return Next::Ended;
+        return Ok(None);
     }
     read(bytes, i)
 }
@@ -31,44 +31,42 @@ pub fn portion_at(bytes: &[u8], at: usize) -> Next
 fn skip_pads(bytes: &[u8], at: usize) -> usize
     ensures { PadsPassed bytes.now at result }
 {
-    let mut i = at;
-    while i < bytes.len() {
+    for i in at..bytes.len() {
         if bytes[i] != 0 {
             return i;
         }
-        i += 1;
     }
-    i
+    bytes.len()
 }
 
 // What stands at `at`, where there is no Pad.
-fn read(bytes: &[u8], at: usize) -> Next
+fn read(bytes: &[u8], at: usize) -> Result<Option<Portion>, Refusal>
     requires { NoPad bytes.now at }
     ensures { result ≡ next_of (next_portion at (drop at bytes.now)) }
 {
     let code = bytes[at];
     if code == 255 {
-        return Next::Ended;
+        return Ok(None);
     }
     if bytes.len() - at < 2 {
-        return Next::Cut;
+        return Err(Refusal::FieldCut);
     }
     let len = bytes[at + 1] as usize;
     // A part with no byte has a branch of its own, so that a processor which foresees it need not wait for the length to know where the
     // next part begins: there may be tens of thousands of them.
     if len == 0 {
-        return Next::Part {
+        return Ok(Some(Portion {
             code,
             len: 0,
             place: at + 2,
-        };
+        }));
     }
     if len > bytes.len() - (at + 2) {
-        return Next::Cut;
+        return Err(Refusal::FieldCut);
     }
-    Next::Part {
+    Ok(Some(Portion {
         code,
         len,
         place: at + 2 + len,
-    }
+    }))
 }

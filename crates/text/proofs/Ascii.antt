@@ -1,97 +1,62 @@
--- Runs of ASCII bytes: how they are found and joined, and that each byte of one is a character by itself.
+-- Runs of ASCII bytes: how they are joined, and that each byte of one is a character by itself.
 -- Assumes nothing.
-use mathlib.Core.Path.{◌≡◌, refl, ◌∙◌, sym}
-use mathlib.Core.Bool.{Bool, true, false, ◌||◌, false≢true}
-use mathlib.Core.List.{List}
-use Prim.Native.Nat.{ℕ, zero, suc, ◌+◌, ◌≤◌, ◌<◌}
-use native.Mathlib.Decide.{dec_le}
-use native.Mathlib.Numerals.{add-one}
-use native.Mathlib.Omega.{arith}
-use borrow.Author.Tests.{ltb-true, ltb-false, lt-ltb, le-ltb}
-use lib.Bits.{bit_or, or_add_and, and_le_l, and_le_r, or_lt}
-use lib.Dec.{ltb}
-use lib.ListN.{length, drop, get_or}
+use Rattle.std.proofs.Common.{◌≡◌, refl, ◌∙◌, sym, ap, Bool, true, false, ◌||◌, List, [], ◌∷◌, ◌++◌, ℕ, zero, suc, ◌+◌, ◌-◌, ◌≤◌, length, take, drop, take-append-drop, arith, MatchOption, Bor}
+use Rattle.std.specs.Bool.{then_some}
+use Rattle.std.proofs.Math.Seq.{take-add}
+use Rattle.std.proofs.lemmas.Bool.{or_parts, or_from, ltb-false}
+use Rattle.std.proofs.lemmas.List.{drop-drop, take_all}
+use Rattle.std.proofs.lemmas.List.Folds.{list_any-append}
 use Rattle.rfc.specs.Text.{utf8}
 use Rattle.rfc.proofs.Text.{lead_00_7f, begun, passed}
-use Rattle.text.specs.Ascii.{Ascii, AnyHigh}
+use Rattle.text.specs.Ascii.{any_high, Passed, Stopped}
 
--- the `|` of two numbers is above 0x7f where one of them is
-or_high : (a b : ℕ) → ltb 0x7f (bit_or a b) ≡ (ltb 0x7f a || ltb 0x7f b)
-or_high a b = by (dec_le a 0x7f) (dec_le b 0x7f)
+-- a text and one behind it
+both : (a b : List ℕ) → any_high (a ++ b) ≡ (any_high a || any_high b)
+both a b = list_any-append _ a b
+
+-- a text that is cut
+cut : (n : ℕ) (text : List ℕ) → any_high text ≡ (any_high (take n text) || any_high (drop n text))
+cut n text = ap any_high (sym (take-append-drop n text)) ∙ both (take n text) (drop n text)
+
+-- the front up to a place and what begins at another, which does not stand behind it
+pub overlapping : (a b : ℕ) (text : List ℕ) → b ≤ a → (any_high (take a text) || any_high (drop b text)) ≡ any_high text
+overlapping a b text h =
+    let rest = drop b text in
+    let more : a ≡ b + (a - b) = omega arith in
+    let front : any_high (take a text) ≡ (any_high (take b text) || any_high (take (a - b) rest)) =
+    ap (λ (n : ℕ). any_high (take n text)) more ∙ ap any_high (take-add b (a - b) text) ∙ both (take b text) (take (a - b) rest) in
+    rw (front, cut b text, cut (a - b) rest) (twice (any_high (take b text)) (any_high (take (a - b) rest)) (any_high (drop (a - b) rest)))
   where
-    by : Dec (a ≤ 0x7f) → Dec (b ≤ 0x7f) → ltb 0x7f (bit_or a b) ≡ (ltb 0x7f a || ltb 0x7f b)
-    by (yes p) (yes q) =
-        let small : bit_or a b ≤ 0x7f = omega (arith, or_lt 7 a b (omega arith) (omega arith)) in
-        rw (le-ltb 0x7f (bit_or a b) small, le-ltb 0x7f a p, le-ltb 0x7f b q)
-    by (yes p) (no q) =
-        let large : 0x7f < bit_or a b = omega (arith, or_add_and a b, and_le_l a b) in
-        rw (lt-ltb 0x7f (bit_or a b) large, le-ltb 0x7f a p, lt-ltb 0x7f b (omega arith))
-    by (no p) q =
-        let large : 0x7f < bit_or a b = omega (arith, or_add_and a b, and_le_r a b) in
-        rw (lt-ltb 0x7f (bit_or a b) large, lt-ltb 0x7f a (omega arith))
+    twice : (x y z : Bool) → ((x || y) || (y || z)) ≡ (x || (y || z))
+    twice true y z = refl
+    twice false true z = refl
+    twice false false z = refl
 
--- the `|` of a byte and of n behind it
-abbrev pub ors : List ℕ → ℕ → ℕ → ℕ
-ors text at zero = get_or text at 0
-ors text at (suc n) = bit_or (ors text at n) (get_or text (at + suc n) 0)
+-- a run in front does not change whether the text is right
+pub in-front : (n : ℕ) (text : List ℕ) → any_high (take n text) ≡ false → utf8 text ≡ utf8 (drop n text)
+in-front zero text run = refl
+in-front (suc n) [] run = refl
+in-front (suc n) (b ∷ text) run =
+    let parts = or_parts _ _ run in
+    passed {text = b ∷ text} {at = 0} (begun (omega arith) (lead_00_7f b (ltb-false 0x7f b parts.0))) ∙ in-front n text parts.1
 
-module _ {text : List ℕ} where
-  -- a run of no bytes
-  pub no_bytes : (from to : ℕ) → to ≤ from → Ascii text from to
-  no_bytes from to h = record { each = λ k p q. absurd (let z : ⊥ = omega arith in z) }
+-- no block has been passed, and one more
+pub none_passed : (text : List ℕ) → Passed text text
+none_passed text = record { at = 0; behind = refl; blocks = refl; before = refl }
 
-  -- a part of a run
-  pub part : {a b c d : ℕ} → Ascii text a d → a ≤ b → c ≤ d → Ascii text b c
-  part run p q = record { each = λ k from below. run.each k (omega arith) (omega arith) }
+pub one_more : (text rest : List ℕ) → Passed text rest → any_high (take 256 rest) ≡ false → Passed text (drop 256 rest)
+one_more text rest p e =
+    let at : ℕ = p.at in
+    let block : any_high (take 256 (drop at text)) ≡ false = ap (λ (l : List ℕ). any_high (take 256 l)) (sym p.behind) ∙ e in
+    record {
+      at = at + 256;
+      behind = ap (drop 256) p.behind ∙ drop-drop 256 at text;
+      blocks = omega (arith, p.blocks);
+      before = ap any_high (take-add at 256 text) ∙ both (take at text) (take 256 (drop at text)) ∙ or_from _ _ p.before block;
+    }
 
-  -- two runs of which the second begins inside the first, or where it ends
-  pub joined : {a b c d : ℕ} → Ascii text a b → Ascii text c d → c ≤ b → Ascii text a d
-  joined {a} {b} {c} {d} first second h = record { each = λ k p q. by k p q (dec_le (suc k) b) }
-    where
-      by : (k : ℕ) → a ≤ k → k < d → Dec (k < b) → get_or text k 0 ≤ 0x7f
-      by k p q (yes e) = first.each k p e
-      by k p q (no e) = second.each k (omega arith) q
-
-  -- no bytes are asked for
-  pub none_asked : (from to : ℕ) → to ≤ from → AnyHigh text from to false
-  none_asked from to h = record { none = λ e. no_bytes from to h; some = λ e run. false≢true e }
-
-  -- one byte
-  pub one_asked : (at : ℕ) → AnyHigh text at (at + 1) (ltb 0x7f (get_or text at 0))
-  one_asked at =
-      record {
-        none = λ e. record { each = λ k p q. let same : k ≡ at = omega arith in rw same (ltb-false 0x7f (get_or text at 0) e) };
-        some = λ e run. omega (arith, ltb-true 0x7f (get_or text at 0) e, run.each at (omega arith) (omega arith));
-      }
-
-  -- two runs of which the second begins inside the first, or where it ends, and does not end before it
-  pub either : {a b c d to : ℕ} {x y : Bool} → AnyHigh text a b x → AnyHigh text c d y → a ≤ c → c ≤ b → b ≤ d → d ≡ to
-      → AnyHigh text a to (x || y)
-  either {x = true} first second p q r e =
-      record { none = λ u. absurd (false≢true (sym u)); some = λ u run. first.some refl (part run (omega arith) (omega arith)) }
-  either {x = false} first second p q r e =
-      record {
-        none = λ u. part (joined (first.none refl) (second.none u) q) (omega arith) (omega arith);
-        some = λ u run. second.some u (part run p (omega arith));
-      }
-
-  -- a byte and n behind it are asked for by their `|`
-  pub all_asked : (at n : ℕ) → AnyHigh text at (at + suc n) (ltb 0x7f (ors text at n))
-  all_asked at zero = one_asked at
-  all_asked at (suc n) =
-      rw (or_high (ors text at n) (get_or text (at + suc n) 0))
-      (either (all_asked at n) (one_asked (at + suc n)) (omega arith) (omega arith) (omega arith) (omega arith))
-
-  -- the same run, whose end is said in another way
-  pub ends : {from a b : ℕ} {x : Bool} → AnyHigh text from a x → a ≡ b → AnyHigh text from b x
-  ends asked e = rw (sym e) asked
-
-  -- a run in front does not change whether the text is right
-  pub in-front : (n : ℕ) → n ≤ length text → Ascii text 0 n → utf8 text ≡ utf8 (drop n text)
-  in-front n h run = up_to n (omega arith)
-    where
-      up_to : (k : ℕ) → k ≤ n → utf8 text ≡ utf8 (drop k text)
-      up_to zero q = refl
-      up_to (suc k) q =
-          let ascii = run.each k (omega arith) (omega arith) in
-          up_to k (omega arith) ∙ rw (sym (add-one k)) (passed {text = text} {at = k} (begun (omega arith) (lead_00_7f _ ascii)))
+-- what is left is ASCII too, or it is the block that is not
+pub last : (text : List ℕ) (rest : Bor (List ℕ)) (high : Bool) → high ≡ any_high rest.now → Passed text rest.now → length rest.now ≤ 256
+    → MatchOption (then_some high rest) (any_high text ≡ false) (λ r. Stopped text r.now)
+last text rest true e p h = record { passed = p; other = ap any_high (take_all 256 rest.now h) ∙ sym e }
+last text rest false e p h = cut p.at text ∙ or_from _ _ p.before (ap any_high (sym p.behind) ∙ sym e)

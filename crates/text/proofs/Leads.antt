@@ -1,19 +1,14 @@
 -- What the first bytes of four ask for, which the code tests together with the second bytes.
 -- Assumes nothing.
-use mathlib.Core.Path.{◌≡◌}
-use mathlib.Core.Bool.{false}
-use mathlib.Core.List.{List, [], ◌∷◌}
 use mathlib.Core.Option.{some}
-use Prim.Native.Nat.{ℕ, ◌+◌, ◌≤◌, ◌<◌}
 use native.Mathlib.Decide.{dec_le}
-use native.Mathlib.Omega.{arith}
-use lib.ListN.{length, get_or}
+use Rattle.std.proofs.Common.{◌≡◌, false, true, IsTrue, ◌↔◌, Bool, List, [], ◌∷◌, ℕ, ◌≤◌, ◌<◌, length, get_or, arith}
 use Rattle.facts.specs.Ranges.{within}
 use Rattle.facts.proofs.Ranges.{inside, above, below}
-use Rattle.rfc.specs.Text.{range, tail, lead}
+use Rattle.rfc.specs.Text.{range, tail, lead, utf8}
 use Rattle.rfc.proofs.Text.{lead_f0, lead_f1_f3, lead_f4, lead_f5_on, Reached, begun, followed, not_followed}
-use Rattle.text.specs.Width.{Four, Width}
-use Rattle.text.proofs.Widths.{nothing, none_there, cut}
+use Rattle.text.specs.Width.{Four}
+use Rattle.text.proofs.Widths.{none_there, cut}
 
 -- a first byte of four: what it asks for, which is what the two bytes together are tested for
 record Leads (b : ℕ) : Type 0 where
@@ -52,39 +47,43 @@ leads_four b p q = by (dec_le b 0xf0) (dec_le b 0xf3)
           all = λ c f. (omega arith, omega arith);
         }
 
--- a place where such a byte stands, or one above
-module _ (text : List ℕ) (at : ℕ) (there : at < length text) (high : 0xf0 ≤ get_or text at 0) where
+-- a text that such a byte begins, or one above
+module _ (text : List ℕ) (begins : (0 < length text) × (0xf0 ≤ get_or text 0 0)) where
   abbrev b : ℕ
-  b = get_or text at 0
+  b = get_or text 0 0
 
   abbrev c : ℕ
-  c = get_or text (at + 1) 0
+  c = get_or text 1 0
 
   -- the text ends before four bytes
-  pub four_cut : length text ≤ at + 3 → Width text at 0
+  pub four_cut : length text < 4 → utf8 text ≡ false
   four_cut h = by (dec_le b 0xf4)
     where
-      by : Dec (b ≤ 0xf4) → Width text at 0
-      by (yes u) = cut (record { there = there; leads = (leads_four b high u).leads }) h
-      by (no u) = none_there there (lead_f5_on b (omega arith))
+      by : Dec (b ≤ 0xf4) → utf8 text ≡ false
+      by (yes u) = cut (record { there = begins.0; leads = (leads_four b begins.1 u).leads }) (omega arith)
+      by (no u) = none_there text begins.0 (lead_f5_on b (omega arith))
 
-  module _ (next : at + 1 < length text) where
-    -- the second byte is right, or not
-    pub four_on : Four b c → Reached text at 2 (some (tail ∷ tail ∷ []))
-    four_on f =
-        let l = leads_four b high (omega arith) in
-        followed (begun there l.leads) next (inside _ _ _ (l.all c f).0 (l.all c f).1)
+  -- the second byte is right, or not, as the code asks for it
+  module _ {answer : Bool} (next : 1 < length text) (told : IsTrue answer ↔ Four b c) where
+    pub four_on : answer ≡ true → Reached text 0 2 (some (tail ∷ tail ∷ []))
+    four_on e =
+        let f = told.0 e in
+        let l = leads_four b begins.1 (omega (arith, f.2, f.3)) in
+        followed (begun {at = 0} begins.0 l.leads) (omega arith) (inside _ _ _ (l.all c f).0 (l.all c f).1)
 
-    pub four_off : (Four b c → ⊥) → Width text at 0
-    four_off n = by (dec_le b 0xf4)
+    pub four_off : answer ≡ false → utf8 text ≡ false
+    four_off e = by (dec_le b 0xf4)
       where
+        no_four : Four b c → ⊥
+        no_four f = let t : answer ≡ true = told.1 f in cc
+
         wrong : (l : Leads b) → Dec (l.low ≤ c) → Dec (c ≤ l.high) → within l.low l.high c ≡ false
-        wrong l (yes u) (yes v) = absurd (n (l.only c u v))
+        wrong l (yes u) (yes v) = absurd (no_four (l.only c u v))
         wrong l (yes u) (no v) = above _ _ _ (omega arith)
         wrong l (no u) v = below _ _ _ (omega arith)
 
-        by : Dec (b ≤ 0xf4) → Width text at 0
+        by : Dec (b ≤ 0xf4) → utf8 text ≡ false
         by (yes u) =
-            let l = leads_four b high u in
-            nothing (omega arith) (not_followed (begun there l.leads) next (wrong l (dec_le l.low c) (dec_le c l.high)))
-        by (no u) = none_there there (lead_f5_on b (omega arith))
+            let l = leads_four b begins.1 u in
+            not_followed (begun {at = 0} begins.0 l.leads) (omega arith) (wrong l (dec_le l.low c) (dec_le c l.high))
+        by (no u) = none_there text begins.0 (lead_f5_on b (omega arith))

@@ -1,19 +1,20 @@
--- A run of ASCII bytes in a text, a test for one, and the place up to which the code goes by blocks.
+-- Whether a text has a byte that is not ASCII, and where its first block stands that has one.
 -- Assumes nothing.
-use Rattle.std.specs.Prelude.{◌≡◌, Bool, true, false, List, ℕ, ◌+◌, ◌%◌, ◌≤◌, ◌<◌, length, get_or}
+use Rattle.std.specs.Prelude.{◌≡◌, Bool, true, false, List, ℕ, ◌%◌, nat_lt, take, drop}
+use Rattle.std.specs.List.{list_any}
 
--- every byte from the one place to before the other is at most 0x7f
-pub record Ascii (text : List ℕ) (from to : ℕ) : Type 0 where
-  pub each : (k : ℕ) → from ≤ k → k < to → get_or text k 0 ≤ 0x7f
+-- one of the bytes is above 0x7f
+abbrev pub any_high : List ℕ → Bool
+any_high bytes = list_any (λ b. nat_lt 0x7f b) bytes
 
--- the answer is whether one of these bytes is above 0x7f
-pub record AnyHigh (text : List ℕ) (from to : ℕ) (answer : Bool) : Type 0 where
-  pub none : answer ≡ false → Ascii text from to
-  pub some : answer ≡ true → Ascii text from to → ⊥
+-- what is left behind whole blocks of 256 bytes that are all ASCII
+pub record Passed (text rest : List ℕ) : Type 0 where
+  pub at : ℕ
+  pub behind : rest ≡ drop at text
+  pub blocks : at % 256 ≡ 0
+  pub before : any_high (take at text) ≡ false
 
--- all bytes before the place are ASCII, and it is the text's end, or there a block of 256 bytes begins that has another (the text may
--- end inside the block: behind its end is no byte above 0x7f)
-pub record PastAscii (text : List ℕ) (at : ℕ) : Type 0 where
-  pub inside : at ≤ length text
-  pub before : Ascii text 0 at
-  pub block : at < length text → (at % 256 ≡ 0) × (Ascii text at (at + 256) → ⊥)
+-- and it begins with a block that has another byte (the last block may be shorter)
+pub record Stopped (text rest : List ℕ) : Type 0 where
+  pub passed : Passed text rest
+  pub other : any_high (take 256 rest) ≡ true

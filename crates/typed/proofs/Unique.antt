@@ -1,10 +1,19 @@
 -- Any two answers that a contract of this crate allows are equal, and so are the rooms that a writer leaves.
 -- Assumes nothing.
-use mathlib.Core.Path.{sym, ◌∙◌}
+use mathlib.Core.Path.{◌≡◌, sym, ap, ◌∙◌}
+use Prim.Native.Nat.{ℕ}
+use Rattle.std.specs.Prelude.{Result, Ok, Err}
 use Rattle.facts.proofs.Unique.{Unique, UniqueLeft}
+use Rattle.refusal.specs.declared.Refusal.{Refusal}
+use Rattle.refusal.proofs.Told.{told_one, says_given}
+use Rattle.kinds.specs.declared.Kind.{Kind}
+use Rattle.kinds.proofs.Numbers.{number_one}
 use Rattle.encoder.proofs.Answers.{wrote_one}
-use Rattle.typed.proofs.checks.refusal.Kinds as refusal-kinds
-use Rattle.typed.proofs.checks.refusal.Reads as refusal
+use Rattle.typed.specs.Writes.{kind_told}
+use Rattle.typed.proofs.checks.kind_to_write.Kinds as kind-to-write-kinds
+use Rattle.typed.proofs.checks.kind_to_write.Reads as kind-to-write
+use Rattle.typed.proofs.checks.writable.Kinds as writable-kinds
+use Rattle.typed.proofs.checks.writable.Reads as writable
 use Rattle.typed.proofs.write_address.Kinds as write-address-kinds
 use Rattle.typed.proofs.write_address.Reads as write-address
 use Rattle.typed.proofs.write_byte.Kinds as write-byte-kinds
@@ -30,8 +39,18 @@ use Rattle.typed.proofs.write_flag.Reads as write-flag
 use Rattle.typed.proofs.write_codes.Kinds as write-codes-kinds
 use Rattle.typed.proofs.write_codes.Reads as write-codes
 
-refusal_unique : Unique 1 refusal-kinds.ps refusal-kinds.r refusal.Post
-refusal_unique κs a x y s t p q = p ∙ sym q
+-- two answers of a kind that tell the same are the same
+kind_one : (r q : Result Kind Refusal) → kind_told r ≡ kind_told q → r ≡ q
+kind_one (Ok a) (Ok b) e = ap Ok (number_one a b cc)
+kind_one (Ok a) (Err f) e = absurd (says_given _ f (sym e))
+kind_one (Err f) (Ok b) e = absurd (says_given _ f e)
+kind_one (Err f) (Err g) e = let z : Err f ≡ Err g = told_one {A = ℕ} (Err f) (Err g) e in let y : f ≡ g = cc in ap Err y
+
+kind_to_write_unique : Unique 1 kind-to-write-kinds.ps kind-to-write-kinds.r kind-to-write.Post
+kind_to_write_unique κs a x y s t p q = kind_one x y (p ∙ sym q)
+
+writable_unique : Unique 1 writable-kinds.ps writable-kinds.r writable.Post
+writable_unique κs a x y s t p q = told_one x y (p ∙ sym q)
 
 write_address_unique : UniqueLeft 1 write-address-kinds.ps write-address-kinds.r write-address.Post (λ κs s. s.0.now)
 write_address_unique κs a x y s t p q = wrote_one p q

@@ -5,88 +5,80 @@
 
 pub mod checks;
 
-ghost use Rattle.std.specs.Prelude.{◌≡◌, cond, [], ◌∷◌};
+ghost use Rattle.std.specs.Prelude.{[], ◌∷◌};
 ghost use Rattle.rfc.specs.Values.{raw, natural, integer, truth, numbers, nothing};
 ghost use Rattle.values.specs.Reading.{byte_of};
 ghost use Rattle.typed.specs.Writes.{Writes};
 
-use encoder::Written;
+use kinds::Kind;
+use refusal::Refusal;
 use values::answer::Node;
 
 // Writes an address.
-pub fn write_address(room: &mut [u8], place: usize, code: u8, address: u32) -> Written
+pub fn write_address(room: &mut [u8], place: usize, code: u8, address: u32) -> Result<usize, Refusal>
     ensures { Writes 1 (natural address) code room.old room.new place result }
 {
-    let bytes = encoder::u32_bytes(address);
-    checks::write_as(room, place, code, kinds::ADDRESS, &bytes)
+    checks::write_as(room, place, code, Kind::Address, &encoder::u32_bytes(address))
 }
 
 // Writes a byte.
-pub fn write_byte(room: &mut [u8], place: usize, code: u8, byte: u8) -> Written
+pub fn write_byte(room: &mut [u8], place: usize, code: u8, byte: u8) -> Result<usize, Refusal>
     ensures { Writes 4 (natural byte) code room.old room.new place result }
 {
-    checks::write_as(room, place, code, kinds::BYTE, &[byte])
+    checks::write_as(room, place, code, Kind::Byte, &[byte])
 }
 
 // Writes yes as 1 and no as 0.
-pub fn write_yes_no(room: &mut [u8], place: usize, code: u8, yes: bool) -> Written
+pub fn write_yes_no(room: &mut [u8], place: usize, code: u8, yes: bool) -> Result<usize, Refusal>
     ensures { Writes 5 (truth yes) code room.old room.new place result }
 {
-    let byte = yes_byte(yes);
-    checks::write_as(room, place, code, kinds::YES_NO, &[byte])
+    checks::write_as(room, place, code, Kind::YesNo, &[u8::from(yes)])
 }
 
 // Writes a number of two bytes.
-pub fn write_u16(room: &mut [u8], place: usize, code: u8, number: u16) -> Written
+pub fn write_u16(room: &mut [u8], place: usize, code: u8, number: u16) -> Result<usize, Refusal>
     ensures { Writes 6 (natural number) code room.old room.new place result }
 {
-    let bytes = encoder::u16_bytes(number);
-    checks::write_as(room, place, code, kinds::U16, &bytes)
+    checks::write_as(room, place, code, Kind::U16, &encoder::u16_bytes(number))
 }
 
 // Writes a number of four bytes.
-pub fn write_u32(room: &mut [u8], place: usize, code: u8, number: u32) -> Written
+pub fn write_u32(room: &mut [u8], place: usize, code: u8, number: u32) -> Result<usize, Refusal>
     ensures { Writes 8 (natural number) code room.old room.new place result }
 {
-    let bytes = encoder::u32_bytes(number);
-    checks::write_as(room, place, code, kinds::U32, &bytes)
+    checks::write_as(room, place, code, Kind::U32, &encoder::u32_bytes(number))
 }
 
 // Writes a number of four bytes in two's complement.
-pub fn write_i32(room: &mut [u8], place: usize, code: u8, number: i32) -> Written
+pub fn write_i32(room: &mut [u8], place: usize, code: u8, number: i32) -> Result<usize, Refusal>
     ensures { Writes 9 (integer number) code room.old room.new place result }
 {
-    let bytes = encoder::i32_bytes(number);
-    checks::write_as(room, place, code, kinds::I32, &bytes)
+    checks::write_as(room, place, code, Kind::I32, &encoder::i32_bytes(number))
 }
 
 // Writes text, which has to be UTF-8.
-pub fn write_text(room: &mut [u8], place: usize, code: u8, text: &[u8]) -> Written
+pub fn write_text(room: &mut [u8], place: usize, code: u8, text: &[u8]) -> Result<usize, Refusal>
     ensures { Writes 10 (raw text.now) code room.old room.new place result }
 {
-    let number = checks::refusal(room, place, code, kinds::TEXT);
-    if number > 0 {
-        return Written::Refused(number);
-    }
+    checks::writable(room, place, code, Kind::Text)?;
     if !text::is_utf8(text) {
-        return Written::Refused(11);
+        return Err(Refusal::NotUtf8);
     }
-    checks::write_as(room, place, code, kinds::TEXT, text)
+    options::write_bytes(room, place, code, text)
 }
 
 // Writes a node type as its byte.
-pub fn write_node_type(room: &mut [u8], place: usize, code: u8, node: Node) -> Written
+pub fn write_node_type(room: &mut [u8], place: usize, code: u8, node: Node) -> Result<usize, Refusal>
     ensures { Writes 12 (natural (byte_of node)) code room.old room.new place result }
 {
-    let byte = values::byte_of(node);
-    checks::write_as(room, place, code, kinds::NODE_TYPE, &[byte])
+    checks::write_as(room, place, code, Kind::NodeType, &[u8::from(node)])
 }
 
 // Writes a message type.
-pub fn write_message_type(room: &mut [u8], place: usize, code: u8, byte: u8) -> Written
+pub fn write_message_type(room: &mut [u8], place: usize, code: u8, byte: u8) -> Result<usize, Refusal>
     ensures { Writes 13 (natural byte) code room.old room.new place result }
 {
-    checks::write_as(room, place, code, kinds::MESSAGE_TYPE, &[byte])
+    checks::write_as(room, place, code, Kind::MessageType, &[byte])
 }
 
 // Writes three bytes.
@@ -97,39 +89,29 @@ pub fn write_three_bytes(
     first: u8,
     second: u8,
     third: u8,
-) -> Written
+) -> Result<usize, Refusal>
     ensures { Writes 14 (raw (first ∷ second ∷ third ∷ [])) code room.old room.new place result }
 {
     checks::write_as(
         room,
         place,
         code,
-        kinds::THREE_BYTES,
+        Kind::ThreeBytes,
         &[first, second, third],
     )
 }
 
 // Writes a flag, which has no value: the code and a length of 0.
-pub fn write_flag(room: &mut [u8], place: usize, code: u8) -> Written
+pub fn write_flag(room: &mut [u8], place: usize, code: u8) -> Result<usize, Refusal>
     ensures { Writes 15 nothing code room.old room.new place result }
 {
-    let number = checks::refusal(room, place, code, kinds::FLAG);
-    if number > 0 {
-        return Written::Refused(number);
-    }
+    checks::writable(room, place, code, Kind::Flag)?;
     encoder::write_slice(room, place, &[code, 0])
 }
 
 // Writes codes of options.
-pub fn write_codes(room: &mut [u8], place: usize, code: u8, codes: &[u8]) -> Written
+pub fn write_codes(room: &mut [u8], place: usize, code: u8, codes: &[u8]) -> Result<usize, Refusal>
     ensures { Writes 11 (numbers codes.now) code room.old room.new place result }
 {
-    checks::write_as(room, place, code, kinds::CODES, codes)
-}
-
-// The byte of yes, and of no.
-fn yes_byte(yes: bool) -> u8
-    ensures { result ≡ cond yes 1 0 }
-{
-    if yes { 1 } else { 0 }
+    checks::write_as(room, place, code, Kind::Codes, codes)
 }

@@ -11,16 +11,18 @@ use lib.Seq.{drop-drop}
 use Rattle.facts.specs.BigEndian.{number, number_at}
 use Rattle.facts.proofs.BigEndian.{number_front}
 use Rattle.facts.proofs.Pieces.{piece_lies}
-use Rattle.rfc.specs.Numbers.{given, refused}
+use Rattle.rfc.specs.Numbers.{Answer, given, refused}
 use Rattle.rfc.specs.Kinds.{kind_of, size_of}
 use Rattle.rfc.specs.Values as rfc
 use Rattle.rfc.specs.Values.{plain, wrong_length, value_of, read, elements, element_at, element}
 use Rattle.rfc.proofs.Values.{kind_kept, Listed, addresses, pairs, u16s, codes}
-use Rattle.rfc.proofs.Elements.{listed_count, listed_size, one_entry, pair_entries, element_there, element_none, element_given}
+use Rattle.rfc.proofs.Elements.{listed_some, listed_count, listed_size, one_entry, pair_entries, element_there, element_none, element_given}
 use Rattle.rfc.proofs.Readings.{read_right}
 use Rattle.values.specs.Reading.{says, count_of, Tells, ReadAs, Entry, entry_at}
-use Rattle.values.specs.declared.answer.Reading.{Reading}
-use Rattle.values.specs.declared.answer.Reading.TheVariants.{Is}
+use Rattle.std.specs.Prelude.{Result, Ok}
+use Rattle.refusal.specs.declared.Refusal.{Refusal}
+use Rattle.refusal.specs.Told as refusal
+use Rattle.refusal.proofs.Told.{says_then}
 use Rattle.values.proofs.Cases.{is_value}
 use Rattle.values.specs.declared.answer.Value.{Value}
 use Rattle.values.specs.declared.answer.Value.TheVariants as case
@@ -60,20 +62,23 @@ module _ {kind index : ℕ} {v : List ℕ} (e : Entry kind v index) {k width n :
         (omega (arith, size_is, lies, length-drop (index * size) v))
 
 module _ {kind index size : ℕ} {v : List ℕ} (e : Entry kind v index) (s : size ≡ size_of kind) where
-  -- it lies inside, whatever the list
+  -- it has bytes, and lies inside, whatever the list
+  pub some : 0 < size
+  some = rw s (listed_some e.is_list)
+
   pub within : index * size + size ≤ length v
   within = omega (arith, lies e refl e.is_list s, size_is e refl e.is_list s)
 
   -- an element of one number
   pub one : {k width : ℕ} (is : kind ≡ k) → Listed k width 1 → (x : ℕ) → x ≡ number (take width (drop (index * size) v))
-      → given (record { kind = k; entries = x ∷ [] }) ≡ entry_at kind v index
+      → record { kind = k; entries = x ∷ [] } ≡ entry_at kind v index
   one {width = width} is l x f =
       let at : index * size ≡ index * width = start e is l s ∙ ap (λ (j : ℕ). index * j) (one-mul width) in
       rw (is, one_entry l v (right e is l) index (below e is l), f, at)
 
   -- a pair
   pub two : kind ≡ 3 → (x y : ℕ) → x ≡ number (take 4 (drop (index * size) v)) → y ≡ number (take 4 (drop 4 (drop (index * size) v)))
-      → given (record { kind = 3; entries = x ∷ y ∷ [] }) ≡ entry_at kind v index
+      → record { kind = 3; entries = x ∷ y ∷ [] } ≡ entry_at kind v index
   two is x y f g =
       let at : index * size ≡ index * 8 = start e is pairs s in
       rw (is, pair_entries v (right e is pairs) index (below e is pairs), f, g, drop-drop 4 (index * size) v, at)
@@ -98,8 +103,13 @@ entry_of (case.MessageType n) v index h r b = absurd (omega arith)
 entry_of (case.ThreeBytes x y z) v index h r b = absurd (omega arith)
 entry_of case.Flag v index h r b = absurd (omega arith)
 
+-- a refused reading is the answer of an element too
+pub no_reading : (index : ℕ) (reading : Answer rfc.Value) (e : Refusal) → refusal.says e ≡ reading → refusal.says e ≡ element index reading
+unfolding element
+no_reading index reading e told = sym (says_then (element_at index) e) ∙ ap (element index) told
+
 -- the element of what was read
-module _ (code : ℕ) (v : List ℕ) (index : ℕ) {reading : Reading} {held : Value} (e : reading ≡ Is held)
+module _ (code : ℕ) (v : List ℕ) (index : ℕ) {reading : Result Value Refusal} {held : Value} (e : reading ≡ Ok held)
     (read_as : ReadAs v (read plain code v) reading) where
   t : Tells v (read plain code v) held
   t = is_value v (read plain code v) e read_as
@@ -125,7 +135,7 @@ module _ (code : ℕ) (v : List ℕ) (index : ℕ) {reading : Reading} {held : V
         rw kind_is at
         (entry_of held v index there (rw (kind_is, is) was_right.0) (rw (kind_is, value_is) (omega (arith, t.exact.counted))))
 
-    pub an_element : entry_at kind v index ≡ element index (read plain code v)
+    pub an_element : given (entry_at kind v index) ≡ element index (read plain code v)
     an_element =
         sym (of_held ∙ element_there index (says held v) (omega (arith, t.exact.counted))
         ∙ (λ i. given (record { kind = kind_is i; entries = get_or (elements (sym value_is i)) index [] })))

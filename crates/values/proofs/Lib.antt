@@ -1,4 +1,3 @@
-pub mod RuleNumbers
 pub mod Cases
 pub mod Entries
 pub mod Unique

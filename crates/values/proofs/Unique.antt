@@ -6,25 +6,30 @@ use mathlib.Core.Bool.{cond}
 use mathlib.Core.List.{List}
 use lib.Dec.{eqb}
 use lib.ListN.{length, get_or}
+use Rattle.std.specs.Prelude.{Result, Ok, Err}
 use Rattle.facts.proofs.Unique.{Unique}
-use Rattle.rfc.specs.Numbers.{Answer, given, refused, needs}
+use Rattle.rfc.specs.Numbers.{Answer, given, and_then}
 use Rattle.rfc.specs.Values as rfc
 use Rattle.rfc.specs.Values.{Content, raw, natural, integer, truth, numbers, nothing, elements, node_of}
-use Rattle.values.specs.Reading.{node_says, says, Exact, ReadAs, element_says}
+use Rattle.refusal.specs.declared.Refusal.{Refusal}
+use Rattle.refusal.specs.Told as refusal
+use Rattle.refusal.specs.Told.{told}
+use Rattle.refusal.proofs.Told.{told_one, says_then}
+use Rattle.values.specs.Reading.{node_says, says, Exact, ReadAs, entry_says, element_says}
 use Rattle.values.specs.declared.answer.Node.{Node}
 use Rattle.values.specs.declared.answer.Node.TheVariants.{B, P, M, H, Unknown}
 use Rattle.values.specs.declared.answer.Value.{Value}
 use Rattle.values.specs.declared.answer.Value.TheVariants as case
-use Rattle.values.specs.declared.answer.Reading.{Reading}
-use Rattle.values.specs.declared.answer.Reading.TheVariants.{Is, Refused}
 use Rattle.values.specs.declared.answer.Element.{Element}
 use Rattle.values.specs.declared.answer.Element.TheVariants as element
 use Rattle.values.proofs.read.Kinds as read-kinds
 use Rattle.values.proofs.read.Reads as read
 use Rattle.values.proofs.element.Kinds as element-kinds
 use Rattle.values.proofs.element.Reads as element-reads
-use Rattle.values.proofs.byte_of.Kinds as byte-of-kinds
-use Rattle.values.proofs.byte_of.Reads as byte_of
+use Rattle.values.proofs.answer.NodeFromU8.from.Kinds as node-of-kinds
+use Rattle.values.proofs.answer.NodeFromU8.from.Reads as node_of_lem
+use Rattle.values.proofs.answer.U8FromNode.from.Kinds as byte-of-kinds
+use Rattle.values.proofs.answer.U8FromNode.from.Reads as byte_of
 
 -- back from what is said to who said it: a node type,
 node_back : rfc.Node → Node
@@ -80,40 +85,50 @@ says_back (case.MessageType n) v e = refl
 says_back (case.ThreeBytes a b c) v e = refl
 says_back case.Flag v e = refl
 
--- a reading,
-reading_back : Answer rfc.Value → Reading
-reading_back (given x) = Is (back x)
-reading_back (refused k) = Refused k
-reading_back (needs n) = Refused n
-
-reading-back : (v : List ℕ) (a : Answer rfc.Value) (r : Reading) → ReadAs v a r → reading_back a ≡ r
-unfolding reading_back
-reading-back v a (Is r) t = ap reading_back (sym t.told) ∙ ap (λ (x : Value). Is x) (says_back r v t.exact)
-reading-back v a (Refused k) t = ap reading_back (sym t)
-
--- an element
-element_back : Answer rfc.Element → Element
-element_back (given e) =
+-- and an element
+entry_back : rfc.Element → Element
+entry_back e =
     let first = get_or e.entries 0 0 in
     cond (eqb e.kind 2) (element.Address first)
     (cond (eqb e.kind 3) (element.Pair first (get_or e.entries 1 0))
     (cond (eqb e.kind 7) (element.U16 first) (element.Code first)))
-element_back (refused k) = element.Refused k
-element_back (needs n) = element.Refused n
 
-element-back : (r : Element) → element_back (element_says r) ≡ r
-unfolding element_back
-element-back (element.Address n) = refl
-element-back (element.Pair a b) = refl
-element-back (element.U16 n) = refl
-element-back (element.Code n) = refl
-element-back (element.Refused k) = refl
+entry-back : (e : Element) → entry_back (entry_says e) ≡ e
+unfolding entry_back
+entry-back (element.Address n) = refl
+entry-back (element.Pair a b) = refl
+entry-back (element.U16 n) = refl
+entry-back (element.Code n) = refl
+
+-- with what is said of it taken back, an answer of the definitions is what the code's answer tells
+module _ {A B : Type 0} (back : A → B) where
+  answer_back : Answer A → Answer B
+  answer_back answer = and_then answer (λ (x : A). given (back x))
+
+  given-back : {r : B} {x : A} {answer : Answer A} → back x ≡ r → given x ≡ answer → given r ≡ answer_back answer
+  unfolding answer_back and_then
+  given-back e told = ap (λ (y : B). given y) (sym e) ∙ ap answer_back told
+
+  refused-back : (e : Refusal) {answer : Answer A} → refusal.says e ≡ answer → refusal.says e ≡ answer_back answer
+  unfolding answer_back
+  refused-back e told = sym (says_then (λ (x : A). given (back x)) e) ∙ ap answer_back told
+
+reading-back : (v : List ℕ) (answer : Answer rfc.Value) (r : Result Value Refusal) → ReadAs v answer r → told r ≡ answer_back back answer
+reading-back v answer (Ok r) t = given-back back (says_back r v t.exact) t.told
+reading-back v answer (Err e) t = refused-back back e t
+
+element-back : (answer : Answer rfc.Element) (r : Result Element Refusal) → element_says r ≡ answer → told r ≡ answer_back entry_back answer
+element-back answer (Ok e) t = given-back entry_back (entry-back e) t
+element-back answer (Err e) t = refused-back entry_back e t
 
 read_unique : Unique 1 read-kinds.ps read-kinds.r read.Post
-read_unique κs a x y s t p q = sym (reading-back _ _ x p) ∙ reading-back _ _ y q
+read_unique κs a x y s t p q = told_one x y (reading-back _ _ x p ∙ sym (reading-back _ _ y q))
 
 element_unique : Unique 1 element-kinds.ps element-kinds.r element-reads.Post
-element_unique κs a x y s t p q = sym (element-back x) ∙ ap element_back (p ∙ sym q) ∙ element-back y
+element_unique κs a x y s t p q = told_one x y (element-back _ x p ∙ sym (element-back _ y q))
+
+node_of_unique : Unique 0 node-of-kinds.ps node-of-kinds.r node_of_lem.Post
+node_of_unique κs a x y s t p q = sym (node-back x) ∙ ap node_back (p.0 ∙ sym q.0) ∙ node-back y
 
 byte_of_unique : Unique 0 byte-of-kinds.ps byte-of-kinds.r byte_of.Post
 byte_of_unique κs a x y s t p q = p ∙ sym q

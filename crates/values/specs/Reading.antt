@@ -1,16 +1,17 @@
 -- What the contracts of typed reading say, over the definitions of `Rattle.rfc.specs.Values`.
 -- Assumes nothing.
-use Rattle.std.specs.Prelude.{ℕ, ◌<◌, Bool, true, false, ◌≡◌, List, [], ◌∷◌, length, get_or}
-use Rattle.rfc.specs.Numbers.{Answer, given, refused}
+use Rattle.std.specs.Prelude.{ℕ, ◌<◌, Bool, true, false, ◌≡◌, List, [], ◌∷◌, length, get_or, Result, Ok, Err}
+use Rattle.std.specs.Result.{result_map_both}
+use Rattle.rfc.specs.Numbers.{Answer, given}
 use Rattle.rfc.specs.Values as rfc
 use Rattle.rfc.proofs.Values.{Listed}
-use Rattle.rfc.specs.Values.{raw, natural, integer, truth, numbers, nothing, numbers_of, Rule, exactly, at_least, multiple, one_or_more, Mode, plain, strict, elements, node_of, value_of, wrong_length}
+use Rattle.rfc.specs.Values.{raw, natural, integer, truth, numbers, nothing, numbers_of, Mode, plain, strict, elements, node_of, value_of, wrong_length}
+use Rattle.refusal.specs.declared.Refusal.{Refusal}
+use Rattle.refusal.specs.Told as refusal
 use Rattle.values.specs.declared.answer.Node.{Node}
 use Rattle.values.specs.declared.answer.Node.TheVariants.{B, P, M, H, Unknown}
 use Rattle.values.specs.declared.answer.Value.{Value}
 use Rattle.values.specs.declared.answer.Value.TheVariants as value
-use Rattle.values.specs.declared.answer.Reading.{Reading}
-use Rattle.values.specs.declared.answer.Reading.TheVariants.{Is, Refused}
 use Rattle.values.specs.declared.answer.Element.{Element}
 use Rattle.values.specs.declared.answer.Element.TheVariants as element
 
@@ -18,13 +19,6 @@ use Rattle.values.specs.declared.answer.Element.TheVariants as element
 abbrev pub mode_of : Bool → Mode
 mode_of false = plain
 mode_of true = strict
-
--- the numbers of the code's tables for the rules
-abbrev pub rule_number : Rule → ℕ
-rule_number multiple = 0
-rule_number exactly = 1
-rule_number at_least = 2
-rule_number one_or_more = 3
 
 -- each node type's byte, and its name in the definitions
 abbrev pub byte_of : Node → ℕ
@@ -109,21 +103,23 @@ pub record Tells (v : List ℕ) (answer : Answer rfc.Value) (r : Value) : Type 0
   pub exact : Exact v r
 
 -- of the bytes v, a reading tells the answer
-abbrev pub ReadAs : List ℕ → Answer rfc.Value → Reading → Type 0
-ReadAs v answer (Is r) = Tells v answer r
-ReadAs v answer (Refused number) = refused number ≡ answer
+abbrev pub ReadAs : List ℕ → Answer rfc.Value → Result Value Refusal → Type 0
+ReadAs v answer (Ok r) = Tells v answer r
+ReadAs v answer (Err e) = refusal.says e ≡ answer
 
 -- what each case of an element says: the list's kind, and the element's numbers
-abbrev pub element_says : Element → Answer rfc.Element
-element_says (element.Address n) = given (record { kind = 2; entries = n ∷ [] })
-element_says (element.Pair a b) = given (record { kind = 3; entries = a ∷ b ∷ [] })
-element_says (element.U16 n) = given (record { kind = 7; entries = n ∷ [] })
-element_says (element.Code n) = given (record { kind = 11; entries = n ∷ [] })
-element_says (element.Refused number) = refused number
+abbrev pub entry_says : Element → rfc.Element
+entry_says (element.Address n) = record { kind = 2; entries = n ∷ [] }
+entry_says (element.Pair a b) = record { kind = 3; entries = a ∷ b ∷ [] }
+entry_says (element.U16 n) = record { kind = 7; entries = n ∷ [] }
+entry_says (element.Code n) = record { kind = 11; entries = n ∷ [] }
 
--- Between the functions of the crate: a kind, and bytes whose length is right for it
+-- what the answer of an element tells
+abbrev pub element_says : Result Element Refusal → Answer rfc.Element
+element_says answer = refusal.told (result_map_both entry_says (λ (e : Refusal). e) answer)
+
+-- Between the functions of the crate: bytes whose length is right for a kind
 pub record Right (kind : ℕ) (v : List ℕ) : Type 0 where
-  pub is_kind : kind < 16
   pub length_right : wrong_length plain kind v ≡ false
 
 -- the kind of a list, with the bytes of one number and the numbers of one element, its bytes, and an index below its count
@@ -135,5 +131,5 @@ pub record Entry (kind : ℕ) (v : List ℕ) (index : ℕ) : Type 0 where
   pub below : index < length (elements (value_of kind v))
 
 -- the element there
-abbrev pub entry_at : ℕ → List ℕ → ℕ → Answer rfc.Element
-entry_at kind v index = given (record { kind = kind; entries = get_or (elements (value_of kind v)) index [] })
+abbrev pub entry_at : ℕ → List ℕ → ℕ → rfc.Element
+entry_at kind v index = record { kind = kind; entries = get_or (elements (value_of kind v)) index [] }

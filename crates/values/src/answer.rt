@@ -1,7 +1,10 @@
 // What a typed reading answers.
+ghost use Rattle.std.specs.Prelude.{◌≡◌};
+ghost use Rattle.rfc.specs.Values.{node_of};
+ghost use Rattle.values.specs.Reading.{node_says, byte_of, count_of};
 
 // The node types of code 46.
-#[derive(Drop)]
+#[derive(Clone, Copy, Debug, PartialEq, Eq)]
 pub enum Node {
     B,
     P,
@@ -11,8 +14,39 @@ pub enum Node {
     Unknown(u8),
 }
 
+// The node type that a byte stands for.
+impl From<u8> for Node {
+    ghost from_gives = { λ byte node. (node_says node ≡ node_of byte) × (byte_of node ≡ byte) };
+
+    #[tactic(auto, unfolding(rfc::specs::Values::node_of, facts::specs::Ranges::lookup, facts::specs::Ranges::within))]
+    fn from(byte: u8) -> Node {
+        match byte {
+            1 => Node::B,
+            2 => Node::P,
+            4 => Node::M,
+            8 => Node::H,
+            _ => Node::Unknown(byte),
+        }
+    }
+}
+
+// The byte of a node type.
+impl From<Node> for u8 {
+    ghost from_gives = { λ node byte. byte ≡ byte_of node };
+
+    fn from(node: Node) -> u8 {
+        match node {
+            Node::B => 1,
+            Node::P => 2,
+            Node::M => 4,
+            Node::H => 8,
+            Node::Unknown(byte) => byte,
+        }
+    }
+}
+
 // What a value holds, a case for each kind, in the order of their numbers.
-#[derive(Drop)]
+#[derive(Clone, Copy, Debug, PartialEq, Eq)]
 pub enum Value {
     // The value's bytes as they stand.
     Raw,
@@ -36,20 +70,26 @@ pub enum Value {
     Flag,
 }
 
-#[derive(Drop)]
-pub enum Reading {
-    Is(Value),
-    // A refusal by its number.
-    Refused(u8),
+impl Value {
+    // How many elements a list has; what is no list has none.
+    pub(crate) fn count(self) -> usize
+        ensures { result ≡ count_of self }
+    {
+        match self {
+            Value::Addresses(count)
+            | Value::Pairs(count)
+            | Value::U16s(count)
+            | Value::Codes(count) => count,
+            _ => 0,
+        }
+    }
 }
 
 // One element of a list.
-#[derive(Drop)]
+#[derive(Clone, Copy, Debug, PartialEq, Eq)]
 pub enum Element {
     Address(u32),
     Pair(u32, u32),
     U16(u16),
     Code(u8),
-    // A refusal by its number.
-    Refused(u8),
 }

@@ -1,122 +1,94 @@
-// The rule for a value's length, by its kind: data for plain reading, and data for strict; and the one code that strict reading judges plainly.
-ghost use Rattle.std.specs.Prelude.{◌≡◌, ◌<◌};
-ghost use Rattle.rfc.specs.Values.{rule_for, wrong_length, length_mode};
-ghost use Rattle.values.specs.Reading.{mode_of, rule_number};
+// The rule for a value's length, by its kind, in plain reading and in strict; and the one code that strict reading judges plainly.
+ghost use Rattle.std.specs.Prelude.{◌≡◌};
+ghost use Rattle.rfc.specs.Values.{rule_for, wrong_length, length_mode, breaks};
+ghost use Rattle.kinds.specs.Kind.{number_of};
+ghost use Rattle.values.specs.Reading.{mode_of};
+ghost use Rattle.values.specs.Rules.{rule_says};
 
-// The length is a multiple of the element's size, also 0; exactly it; at least it; or one element or more.
-const MULTIPLE: u8 = 0;
+use kinds::Kind;
 
-const EXACTLY: u8 = 1;
+// What a value's length has to be, by the size of an element: a multiple of it, also 0; exactly it; at least it; or one element or more.
+#[derive(Clone, Copy)]
+enum Rule {
+    Multiple,
+    Exactly,
+    AtLeast,
+    OneOrMore,
+}
 
-const AT_LEAST: u8 = 2;
+impl Rule {
+    // The rule for a kind. Strict reading asks for an exact length, and for one element or more in a list or text.
+    #[tactic(auto, unfolding(rfc::specs::Values::rule_for, rfc::specs::Values::rules, facts::specs::Ranges::lookup, facts::specs::Ranges::within))]
+    fn of(kind: Kind, strict: bool) -> Rule
+        ensures { rule_says result ≡ rule_for (mode_of strict) (number_of kind) }
+    {
+        match kind {
+            Kind::Raw => Rule::Multiple,
+            Kind::Address => Rule::Exactly,
+            Kind::Addresses | Kind::Pairs | Kind::U16s | Kind::Text | Kind::Codes => {
+                if strict {
+                    Rule::OneOrMore
+                } else {
+                    Rule::Multiple
+                }
+            }
+            _ => if strict { Rule::Exactly } else { Rule::AtLeast },
+        }
+    }
 
-const ONE_OR_MORE: u8 = 3;
-
-// The rules of plain reading, by kind 0 to 15.
-const PLAIN: [u8; 16] = [
-    MULTIPLE, // raw
-    EXACTLY, // address
-    MULTIPLE, // addresses
-    MULTIPLE, // pairs
-    AT_LEAST, // byte
-    AT_LEAST, // yes/no
-    AT_LEAST, // u16
-    MULTIPLE, // u16 list
-    AT_LEAST, // u32
-    AT_LEAST, // i32
-    MULTIPLE, // text
-    MULTIPLE, // codes
-    AT_LEAST, // node type
-    AT_LEAST, // message type
-    AT_LEAST, // three bytes
-    AT_LEAST, // flag
-];
-
-// The rules of strict reading, by kind 0 to 15: an exact length, and one element or more in a list or text.
-const STRICT: [u8; 16] = [
-    MULTIPLE, // raw, also empty
-    EXACTLY, // address
-    ONE_OR_MORE, // addresses
-    ONE_OR_MORE, // pairs
-    EXACTLY, // byte
-    EXACTLY, // yes/no
-    EXACTLY, // u16
-    ONE_OR_MORE, // u16 list
-    EXACTLY, // u32
-    EXACTLY, // i32
-    ONE_OR_MORE, // text
-    ONE_OR_MORE, // codes
-    EXACTLY, // node type
-    EXACTLY, // message type
-    EXACTLY, // three bytes
-    EXACTLY, // flag
-];
+    // Whether a length breaks it.
+    fn is_broken(self, size: usize, len: usize) -> bool
+        ensures { result ≡ breaks (rule_says self) size len }
+    {
+        match self {
+            Rule::Multiple => !len.is_multiple_of(size),
+            Rule::Exactly => len != size,
+            Rule::AtLeast => len < size,
+            Rule::OneOrMore => len == 0 || !len.is_multiple_of(size),
+        }
+    }
+}
 
 // The code of the one list that may be empty in strict mode too, for "no home agents" (RFC 2132, section 8.13).
 const HOME_AGENTS: u8 = 68;
 
 // Whether the length of a code's value is judged by the strict rules: that of the home agents never is.
+#[tactic(auto, unfolding(rfc::specs::Values::length_mode))]
 pub(crate) fn length_strict(code: u8, strict: bool) -> bool
     ensures { mode_of result ≡ length_mode (mode_of strict) code }
 {
-    if code == HOME_AGENTS {
-        return false;
-    }
-    strict
-}
-
-// The rule for a kind.
-fn rule_for(kind: u8, strict: bool) -> u8
-    requires { kind < 16 }
-    ensures { result ≡ rule_number (rule_for (mode_of strict) kind) }
-{
-    if strict {
-        return STRICT[kind as usize];
-    }
-    PLAIN[kind as usize]
+    strict && code != HOME_AGENTS
 }
 
 // Whether the value's length breaks the rule for a kind.
-fn breaks_rule(kind: u8, value: &[u8], strict: bool) -> bool
-    requires { kind < 16 }
-    ensures { result ≡ wrong_length (mode_of strict) kind value.now }
+#[tactic(auto, unfolding(rfc::specs::Values::wrong_length))]
+fn breaks_rule(kind: Kind, value: &[u8], strict: bool) -> bool
+    ensures { result ≡ wrong_length (mode_of strict) (number_of kind) value.now }
 {
-    let rule = rule_for(kind, strict);
-    let size = kinds::element_size(kind);
-    if rule == EXACTLY {
-        return value.len() != size;
-    }
-    if rule == AT_LEAST {
-        return value.len() < size;
-    }
-    // Two rules are left, both about whole elements; to have none breaks the one that asks for some.
-    if value.len() == 0 {
-        return rule == ONE_OR_MORE;
-    }
-    value.len() % size != 0
+    Rule::of(kind, strict).is_broken(kind.element_size(), value.len())
 }
 
-// 10: the value's length is wrong for its kind. Each arm names its kind, so that the compiler looks up the rule and the size.
-pub(crate) fn wrong_length(kind: u8, value: &[u8], strict: bool) -> bool
-    requires { kind < 16 }
-    ensures { result ≡ wrong_length (mode_of strict) kind value.now }
+// 10: the value's length is wrong for its kind. Each arm names its kind, so that the compiler knows the rule and the size: one call for all
+// kinds looks both up and divides by the size, and a reading then takes twice as long.
+pub(crate) fn wrong_length(kind: Kind, value: &[u8], strict: bool) -> bool
+    ensures { result ≡ wrong_length (mode_of strict) (number_of kind) value.now }
 {
     match kind {
-        kinds::RAW => breaks_rule(kinds::RAW, value, strict),
-        kinds::ADDRESS => breaks_rule(kinds::ADDRESS, value, strict),
-        kinds::ADDRESSES => breaks_rule(kinds::ADDRESSES, value, strict),
-        kinds::PAIRS => breaks_rule(kinds::PAIRS, value, strict),
-        kinds::BYTE => breaks_rule(kinds::BYTE, value, strict),
-        kinds::YES_NO => breaks_rule(kinds::YES_NO, value, strict),
-        kinds::U16 => breaks_rule(kinds::U16, value, strict),
-        kinds::U16S => breaks_rule(kinds::U16S, value, strict),
-        kinds::U32 => breaks_rule(kinds::U32, value, strict),
-        kinds::I32 => breaks_rule(kinds::I32, value, strict),
-        kinds::TEXT => breaks_rule(kinds::TEXT, value, strict),
-        kinds::CODES => breaks_rule(kinds::CODES, value, strict),
-        kinds::NODE_TYPE => breaks_rule(kinds::NODE_TYPE, value, strict),
-        kinds::MESSAGE_TYPE => breaks_rule(kinds::MESSAGE_TYPE, value, strict),
-        kinds::THREE_BYTES => breaks_rule(kinds::THREE_BYTES, value, strict),
-        _ => breaks_rule(kinds::FLAG, value, strict),
+        Kind::Raw => breaks_rule(Kind::Raw, value, strict),
+        Kind::Address => breaks_rule(Kind::Address, value, strict),
+        Kind::Addresses => breaks_rule(Kind::Addresses, value, strict),
+        Kind::Pairs => breaks_rule(Kind::Pairs, value, strict),
+        Kind::Byte => breaks_rule(Kind::Byte, value, strict),
+        Kind::YesNo => breaks_rule(Kind::YesNo, value, strict),
+        Kind::U16 => breaks_rule(Kind::U16, value, strict),
+        Kind::U16s => breaks_rule(Kind::U16s, value, strict),
+        Kind::U32 => breaks_rule(Kind::U32, value, strict),
+        Kind::I32 => breaks_rule(Kind::I32, value, strict),
+        Kind::Text => breaks_rule(Kind::Text, value, strict),
+        Kind::Codes => breaks_rule(Kind::Codes, value, strict),
+        Kind::NodeType => breaks_rule(Kind::NodeType, value, strict),
+        Kind::MessageType => breaks_rule(Kind::MessageType, value, strict),
+        Kind::ThreeBytes => breaks_rule(Kind::ThreeBytes, value, strict),
+        Kind::Flag => breaks_rule(Kind::Flag, value, strict),
     }
 }

@@ -1,56 +1,51 @@
 -- What the reading of a whole option answers, by what the step answered.
 -- Assumes nothing.
-use mathlib.Core.Path.{◌≡◌, refl, sym, ap, ◌∙◌, subst}
+use mathlib.Core.Path.{◌≡◌, sym, ap, ◌∙◌, subst}
 use Prim.Native.Nat.{ℕ}
-use mathlib.Core.List.{List, [], ◌∷◌}
-use types.Run.{OneOf, miss}
-use denote.Enum.Declared.{tag_of}
-use Rattle.rfc.specs.Numbers.{given, refused}
+use mathlib.Core.List.{List}
+use Rattle.std.specs.Prelude.{Result, Ok, Err}
+use Rattle.rfc.specs.Numbers.{Answer, given, and_then}
 use Rattle.rfc.specs.Walk.{option}
-use Rattle.rfc.specs.Values.{Mode, read, read_option}
-use Rattle.rfc.proofs.Readings.{option_stopped, option_refused, option_needs, value_refused, value_given}
+use Rattle.rfc.specs.Values as rfc
+use Rattle.rfc.specs.Values.{Mode, valued, read, read_found, read_option}
+use Rattle.rfc.proofs.Readings.{option_stopped, value_given}
+use Rattle.refusal.specs.Told as refusal
+use Rattle.refusal.specs.declared.Refusal.{Refusal}
+use Rattle.refusal.proofs.Told.{says_then}
 use Rattle.values.specs.Reading.{Tells}
 use Rattle.values.specs.declared.answer.Value.{Value}
 use Rattle.borrowed.specs.Walked.{stop_of, shown, says}
+use Rattle.borrowed.specs.declared.answer.Found as found
+use Rattle.borrowed.specs.declared.answer.Stop.{Stop}
 use Rattle.borrowed.specs.declared.answer.Step.{Step}
 use Rattle.borrowed.specs.declared.answer.Step.TheVariants as step
-use Rattle.borrowed.specs.contracts.answer.Step.{the_type}
-use Rattle.whole.specs.Whole.{shown_by, ValueTells, ReadWhole, NoOption, Passed}
+use Rattle.whole.specs.Whole.{shown_by, ValueTells, ReadWhole}
 use Rattle.whole.specs.declared.Whole.{Whole}
 use Rattle.whole.specs.declared.Whole.TheVariants as whole
 
--- the answers that are no option, by their numbers
-abbrev others : List ℕ
-others = 0 ∷ 2 ∷ 3 ∷ []
-
-pub no_option : (found : Step) → OneOf others (tag_of the_type found) → NoOption found
-no_option (step.Stopped s at) e = tt
-no_option (step.Found code parts len place) e = absurd (miss others 1 tt e)
-no_option (step.Refused number) e = tt
-no_option (step.Needs len) e = tt
-
 module _ (mode : Mode) (area join : List ℕ) where
   -- r is what the reading of a step answers
-  abbrev pub Answers : Step → Whole → Type 0
+  abbrev pub Answers : Result Step Refusal → Result Whole Refusal → Type 0
   Answers found r = ReadWhole (shown_by found area join) (read_option mode (says found area join)) r
 
   -- what is no option passes through
-  pub passes_on : (found : Step) (r : Whole) → Passed found r → Answers found r
-  passes_on (step.Stopped s at) r e = rw e (sym (option_stopped mode (stop_of s) at))
-  passes_on (step.Found code parts len place) r e = absurd e
-  passes_on (step.Refused number) r e = rw e (sym (option_refused mode number _ refl))
-  passes_on (step.Needs len) r e = rw e (sym (option_needs mode len _ refl))
+  pub passes_refused : {found : Result Step Refusal} {e : Refusal} → found ≡ Err e → Answers found (Err e)
+  unfolding read_option
+  passes_refused {found} {e} is = rw is (sym (says_then (read_found mode) e))
+
+  pub passes_stop : {found : Result Step Refusal} {s : Stop} {at : ℕ} → found ≡ Ok (step.Stopped s at) → Answers found (Ok (whole.Stopped s at))
+  passes_stop {found} {s} {at} is = rw is (sym (option_stopped mode (stop_of s) at))
 
   -- an option is read
-  module _ (found : Step) (code parts len place : ℕ) (is : found ≡ step.Found code parts len place) where
-    module _ (v : List ℕ) (shows : v ≡ shown parts len place area join) where
-      pub not_read : (number : ℕ) → read mode code v ≡ refused number → Answers found (whole.Refused number)
-      not_read number e =
-          subst (λ (s : Step). Answers s (whole.Refused number)) (sym is)
-          (sym (value_refused mode code _ parts place number (ap (read mode code) (sym shows) ∙ e)))
+  module _ (f : found.Found) {v : List ℕ} (shows : v ≡ shown f.parts f.len f.place area join) where
+    pub not_read : (e : Refusal) → refusal.says e ≡ read mode f.code v → Answers (Ok (step.Found f)) (Err e)
+    unfolding read_option and_then read_found
+    not_read e told =
+        let put : rfc.Value → Answer rfc.Whole = λ x. given (valued f.code x f.place) in
+        sym (says_then put e) ∙ ap (λ (a : Answer rfc.Value). and_then a put) (told ∙ ap (read mode f.code) shows)
 
-      pub is_read : (value : Value) → Tells v (read mode code v) value → Answers found (whole.Valued code value place)
-      is_read value t =
-          subst (λ (s : Step). Answers s (whole.Valued code value place)) (sym is)
-          (subst (λ (l : List ℕ). ValueTells l (read_option mode (given (option code l parts place))) code value place) shows
-          (record { told = sym (value_given mode code v parts place _ (sym t.told)); exact = t.exact }))
+    pub is_read : (value : Value) → Tells v (read mode f.code v) value
+        → Answers (Ok (step.Found f)) (Ok (whole.Valued f.code value f.place))
+    is_read value t =
+        subst (λ (l : List ℕ). ValueTells l (read_option mode (given (option f.code l f.parts f.place))) f.code value f.place) shows
+        (record { told = sym (value_given mode f.code v f.parts f.place _ (sym t.told)); exact = t.exact })

@@ -4,12 +4,13 @@
 ghost use Rattle.rfc.specs.Values.{read_option};
 ghost use Rattle.values.specs.Reading.{mode_of};
 ghost use Rattle.borrowed.specs.Walked.{says};
-ghost use Rattle.whole.specs.Whole.{shown_by, ReadWhole, NoOption, Passed};
+ghost use Rattle.whole.specs.Whole.{shown_by, ReadWhole};
 
 use borrowed::answer::{Step, Stop};
-use values::answer::{Reading, Value};
+use refusal::Refusal;
+use values::answer::Value;
 
-#[derive(Drop)]
+#[derive(Clone, Copy, Debug, PartialEq, Eq)]
 pub enum Whole {
     // A stop, and the place behind it.
     Stopped(Stop, usize),
@@ -19,47 +20,25 @@ pub enum Whole {
         value: Value,
         place: usize,
     },
-    // A refusal by its number: the step's, or else the reading's.
-    Refused(u8),
-    // Refusal 5, with the length that is needed.
-    Needs(usize),
 }
 
-// What the option that a step found reads as, with the area and the join buffer as the step left them. What is no option passes through.
-pub fn read_option<'a>(found: Step, area: &'a [u8], join: &'a [u8], strict: bool) -> Whole
+// What the option that a step found reads as, with the area and the join buffer as the step left them. What is no option passes through:
+// a refusal is the step's, or else the reading's.
+pub fn read_option<'a>(
+    found: Result<Step, Refusal>,
+    area: &'a [u8],
+    join: &'a [u8],
+    strict: bool,
+) -> Result<Whole, Refusal>
     ensures { ReadWhole (shown_by found area.now join.now)
         (read_option (mode_of strict) (says found area.now join.now)) result }
 {
-    let Step::Found {
-        code,
-        parts,
-        len,
-        place,
-    } = found
-    else {
-        return passed(found);
-    };
-    match values::read(code, borrowed::value(area, join, parts, len, place), strict) {
-        Reading::Refused(number) => Whole::Refused(number),
-        Reading::Is(value) => Whole::Valued { code, value, place },
-    }
-}
-
-// What a step answered that found no option.
-fn passed(found: Step) -> Whole
-    requires { NoOption found }
-    ensures { Passed found result }
-{
-    match found {
-        Step::Stopped(stop, at) => Whole::Stopped(stop, at),
-        Step::Refused(number) => Whole::Refused(number),
-        Step::Needs(len) => Whole::Needs(len),
-        // Never: what is required rules it out, and the contract has no answer for it.
-        Step::Found {
-            code: _,
-            parts: _,
-            len: _,
-            place: _,
-        } => Whole::Refused(4),
+    match found? {
+        Step::Stopped(stop, at) => Ok(Whole::Stopped(stop, at)),
+        Step::Found(option) => Ok(Whole::Valued {
+            code: option.code,
+            value: values::read(option.code, option.value(area, join), strict)?,
+            place: option.place,
+        }),
     }
 }

@@ -13,6 +13,3 @@ invariant-loop-index l = (◌≡◌ {A = State}
     (adds_all (l.initial.text, l.at) (entries_in (length l.message) (length l.initial.join) l.message 0)))
     × (length l.text ≡ length l.initial.text)
     × (length l.join ≡ length l.initial.join)
-
-abbrev pub decreases-loop-index : goal.decreases-loop-index
-decreases-loop-index l = length l.message - l.index

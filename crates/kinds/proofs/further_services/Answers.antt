@@ -1,4 +1,4 @@
--- `further_services` meets its contract: each range of codes has one kind.
+-- `further_services` meets its contract: the ranges that the check does not find alone.
 -- Assumes nothing.
 use Rattle.facts.specs.Ranges.{lookup, within}
 use Rattle.rfc.specs.Kinds.{kind_of, kinds}
@@ -6,21 +6,9 @@ use Rattle.rfc.proofs.Codes.{kind_from_to}
 use borrow.Author.Rules.{rules}
 use Rattle.kinds.proofs.further_services.Goals as goal
 
-pub returns-then-code-le62 : goal.returns-then-code-le62
-unfolding kind_of kinds lookup within
-returns-then-code-le62 c = search (rules, kind_from_to)
-
 pub returns-then-code-le63 : goal.returns-then-code-le63
 unfolding kind_of kinds lookup within
 returns-then-code-le63 c = search (rules, kind_from_to)
-
-pub returns-then-code-le64 : goal.returns-then-code-le64
-unfolding kind_of kinds lookup within
-returns-then-code-le64 c = search (rules, kind_from_to)
-
-pub returns-then-code-le65 : goal.returns-then-code-le65
-unfolding kind_of kinds lookup within
-returns-then-code-le65 c = search (rules, kind_from_to)
 
 pub returns-then-code-le67 : goal.returns-then-code-le67
 unfolding kind_of kinds lookup within

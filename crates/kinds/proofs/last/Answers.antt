@@ -1,4 +1,4 @@
--- `last` meets its contract: each range of codes has one kind. (The last range ends at 255, as a code is below 256: `le_of_suc-le-suc`.)
+-- `last` meets its contract: the ranges that the check does not find alone.
 -- Assumes nothing.
 use mathlib.Core.Path.{refl}
 use native.Mathlib.Nat.{le_of_suc-le-suc}
@@ -12,33 +12,17 @@ pub returns-then-code-le105 : goal.returns-then-code-le105
 unfolding kind_of kinds lookup within
 returns-then-code-le105 c = search (rules, kind_from_to)
 
-pub returns-then-code-le106 : goal.returns-then-code-le106
-unfolding kind_of kinds lookup within
-returns-then-code-le106 c = search (rules, kind_from_to)
-
 pub returns-then-code-le113 : goal.returns-then-code-le113
 unfolding kind_of kinds lookup within
 returns-then-code-le113 c = search (rules, kind_from_to)
-
-pub returns-then-code-le114 : goal.returns-then-code-le114
-unfolding kind_of kinds lookup within
-returns-then-code-le114 c = search (rules, kind_from_to)
 
 pub returns-then-code-le117 : goal.returns-then-code-le117
 unfolding kind_of kinds lookup within
 returns-then-code-le117 c = search (rules, kind_from_to)
 
-pub returns-then-code-le118 : goal.returns-then-code-le118
-unfolding kind_of kinds lookup within
-returns-then-code-le118 c = search (rules, kind_from_to)
-
 pub returns-then-code-le149 : goal.returns-then-code-le149
 unfolding kind_of kinds lookup within
 returns-then-code-le149 c = search (rules, kind_from_to)
-
-pub returns-then-code-le150 : goal.returns-then-code-le150
-unfolding kind_of kinds lookup within
-returns-then-code-le150 c = search (rules, kind_from_to)
 
 pub returns-then-code-le151 : goal.returns-then-code-le151
 unfolding kind_of kinds lookup within

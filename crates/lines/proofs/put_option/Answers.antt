@@ -7,6 +7,6 @@ use Rattle.lines.proofs.put_option.Goals as goal
 pub returns : goal.returns
 unfolding option_line
 returns c =
-    rw (← c.kind_of.ensures)
+    rw (← c.kind_of.ensures, ← c.number.ensures)
     (both _ _ _ (both _ _ _ (both _ _ _ (both _ _ _ (both _ _ _ c.put_named-kind.ensures c.put_named-counted.ensures)
     c.put_named-shown.ensures) c.put_word-bytes.ensures) c.put_spaced-end.ensures) c.put_word.ensures)

@@ -7,4 +7,4 @@ use Rattle.lines.proofs.put_stop.Goals as goal
 pub returns : goal.returns
 unfolding stop_line
 returns c =
-    both _ _ _ (both _ _ _ c.put_stop_word-number.ensures c.put_decimal-end.ensures) c.put_word.ensures
+    rw (← c.stop_word.ensures) (both _ _ _ c.put_named-end.ensures c.put_word.ensures)

@@ -1,16 +1,41 @@
--- `put_parts` meets its contract: after each turn some whole parts are written (`Sofar`), and the next one fits.
+-- `put_parts` meets its contract: after each turn some whole parts are written (`Cut`), and the next one fits.
 -- Assumes nothing.
+use mathlib.Core.Path.{ap, ◌∙◌}
+use native.Mathlib.Omega.{arith}
 use lib.Dec.{lit<}
-use Rattle.rfc.proofs.Sofar.{sofar_none, sofar_more, sofar_all}
+use Rattle.std.proofs.Common.{min, length}
+use Rattle.std.specs.Slice.Iter.{chunks_rest}
+use Rattle.encoder.proofs.Cuts.{made_bytes, cut_none, part_short, part_fits, cut_more, cut_all}
 use Rattle.options.proofs.put_parts.Goals as goal
 
-pub loop-from-init : goal.loop-from-init
-loop-from-init c = sofar_none (lit< tt) c.requires
+pub loop-part-init : goal.loop-part-init
+loop-part-init c =
+    let chunks = c.chunks-part-items.ensures in
+    let same = c.into_iter-part-iterator.ensures.into_iter_gives in
+    record {
+      size = ap (λ i. i.size) same ∙ chunks.size;
+      cut = cut_none made_bytes (lit< tt) (omega arith) (ap chunks_rest same ∙ chunks.rest) c.requires;
+    }
 
-pub loop-from-preserved : goal.loop-from-preserved
-loop-from-preserved c =
-    sofar_more c.loop-from.invariant c.loop-from-test.true c.next_piece-n.ensures
-    c.put_part.ensures
+pub put_part-requires : goal.put_part-requires
+put_part-requires c =
+    let l = c.loop-part in
+    let next = c.in-Some.ensures.steps.1 in
+    let many = next.1 ∙ ap (λ k. min k (length (chunks_rest l.part-iterator))) l.invariant.size in (
+      omega (arith, part_fits l.invariant.cut _ _ next.0 many next.2),
+      omega (arith, part_short l.invariant.cut _ _ next.0 many next.2),
+    )
+
+pub loop-part-preserved : goal.loop-part-preserved
+loop-part-preserved c =
+    let l = c.loop-part in
+    let steps = c.in-Some.ensures.steps in
+    let next = steps.1 in
+    let many = next.1 ∙ ap (λ k. min k (length (chunks_rest l.part-iterator))) l.invariant.size in
+    record {
+      size = steps.0 ∙ l.invariant.size;
+      cut = cut_more l.invariant.cut _ _ next.0 many next.2 (omega arith) (omega arith) c.put_part.ensures;
+    }
 
 pub returns : goal.returns
-returns c = sofar_all c.loop-from.invariant c.loop-from-test.false
+returns c = cut_all c.loop-part.invariant.cut c.in-None.ensures.steps.1.0

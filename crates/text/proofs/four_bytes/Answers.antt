@@ -1,44 +1,31 @@
 -- `four_bytes` meets its contract: enough bytes are left, the first two begin a character, and the others follow.
 -- Assumes nothing.
-use mathlib.Core.List.{[], ◌∷◌}
-use mathlib.Core.Option.{some}
-use native.Mathlib.Omega.{arith}
-use Rattle.rfc.specs.Text.{tail}
-use Rattle.rfc.proofs.Text.{Reached}
+use Rattle.std.proofs.Common.{arith}
 use Rattle.text.proofs.Leads.{four_cut, four_on, four_off}
 use Rattle.text.proofs.Widths.{one_there, on, off}
 use Rattle.text.proofs.four_bytes.Goals as goal
+use Rattle.text.proofs.four_bytes.Goals.{then-rest-lt4-via-then-rest-lt4, then-rest-lt4-via-else-rest-lt4+then-not-begins_four, then-rest-lt4-via-else-rest-lt4+else-not-begins_four+then-not-between, then-rest-lt4-via-else-rest-lt4+else-not-begins_four+else-not-between+then-not-between-2}
 
-pub returns-then-i-text : goal.returns-then-i-text
-returns-then-i-text c = four_cut _ _ c.requires.0 (omega arith) (omega arith)
-
-pub returns-then-not-begins_four : goal.returns-then-not-begins_four
-returns-then-not-begins_four c =
-    let pre = c.requires in
-    let wrong = c.begins_four.ensures.1 (c.if-not-begins_four.true) in
-    four_off _ _ pre.0 (omega arith) (omega arith) (rw pre.1 at wrong)
-
-pub returns-then-not-between : goal.returns-then-not-between
-returns-then-not-between c =
-    let two : let a = c.args in Reached a.text.now a.i 2 (some (tail ∷ tail ∷ [])) =
-    let pre = c.requires in
-    four_on _ _ pre.0 (omega arith) (omega arith) (rw pre.1 at (c.begins_four.ensures.0 (c.if-not-begins_four.false))) in
-    off two (omega arith) c.between.ensures c.if-not-between.true-raw
-
-pub returns-then-not-between-2 : goal.returns-then-not-between-2
-returns-then-not-between-2 c =
-    let two : let a = c.args in Reached a.text.now a.i 2 (some (tail ∷ tail ∷ [])) =
-    let pre = c.requires in
-    four_on _ _ pre.0 (omega arith) (omega arith) (rw pre.1 at (c.begins_four.ensures.0 (c.if-not-begins_four.false))) in
-    let three : let a = c.args in Reached a.text.now a.i 3 (some (tail ∷ [])) =
-    on two (omega arith) c.between.ensures c.if-not-between.false-raw in
-    off three (omega arith) c.between-2.ensures c.if-not-between-2.true-raw
+pub returns-then-rest-lt4 : goal.returns-then-rest-lt4
+returns-then-rest-lt4 c =
+    elim c.then-rest-lt4.branch [
+      | then-rest-lt4-via-then-rest-lt4 w ↦ four_cut _ c.requires (omega arith)
+      | then-rest-lt4-via-else-rest-lt4+then-not-begins_four w ↦
+          four_off _ c.requires (omega arith) w.begins_four.ensures w.if-not-begins_four.true
+      | then-rest-lt4-via-else-rest-lt4+else-not-begins_four+then-not-between w ↦
+          off {n = 2} (four_on _ c.requires (omega arith) w.begins_four.ensures w.if-not-begins_four.false) (omega arith) w.between.ensures
+          w.if-not-between.true
+      | then-rest-lt4-via-else-rest-lt4+else-not-begins_four+else-not-between+then-not-between-2 w ↦
+          off {n = 3}
+          (on {n = 2} (four_on _ c.requires (omega arith) w.begins_four.ensures w.if-not-begins_four.false) (omega arith) w.between.ensures
+          w.if-not-between.false)
+          (omega arith) w.between-else-not-between.ensures w.if-not-between-2.true
+    ]
 
 pub returns : goal.returns
 returns c =
-    let two : let a = c.args in Reached a.text.now a.i 2 (some (tail ∷ tail ∷ [])) =
-    let pre = c.requires in
-    four_on _ _ pre.0 (omega arith) (omega arith) (rw pre.1 at (c.begins_four.ensures.0 (c.if-not-begins_four.false))) in
-    let three : let a = c.args in Reached a.text.now a.i 3 (some (tail ∷ [])) =
-    on two (omega arith) c.between.ensures c.if-not-between.false-raw in
-    one_there (on three (omega arith) c.between-2.ensures c.if-not-between-2.false-raw)
+    one_there
+    (on {n = 3}
+    (on {n = 2} (four_on _ c.requires (omega arith) c.begins_four.ensures c.if-not-begins_four.false) (omega arith) c.between.ensures
+    c.if-not-between.false)
+    (omega arith) c.between-else-not-between.ensures c.if-not-between-2.false)

@@ -16,4 +16,4 @@ write_as-requires c = search (rules, digits_as i32)
 pub returns : goal.returns
 returns c =
     let bits = ap unsigned (to_z-of_z {w = w32} c.ranges.number) in
-    holds 9 _ _ _ _ (integer _) (digits_in i32 _ (c.i32_bytes-bytes.ensures ∙ ap (digits 4) bits)) c.write_as.ensures
+    holds 9 _ _ _ _ (integer _) (digits_in i32 _ (c.i32_bytes.ensures ∙ ap (digits 4) bits)) c.write_as.ensures

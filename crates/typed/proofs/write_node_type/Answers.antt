@@ -11,4 +11,4 @@ pub write_as-requires : goal.write_as-requires
 write_as-requires c = scalar_as node_type refl
 
 pub returns : goal.returns
-returns c = search (rules, holds_number node_type, digits_byte, ← c.byte_of-byte.ensures)
+returns c = search (rules, holds_number node_type, digits_byte, ← c.from.ensures)

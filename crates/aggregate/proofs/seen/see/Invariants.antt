@@ -7,9 +7,9 @@ use Rattle.aggregate.specs.Marked.{sees}
 use Rattle.aggregate.proofs.Marking.{Going}
 use Rattle.aggregate.proofs.seen.see.Given as goal
 
-abbrev pub invariant-loop-c : goal.invariant-loop-c
-invariant-loop-c l = Going l.bytes l.index (sees l.index (l.initial.marks, record { codes = l.initial.codes; code = l.initial.code }) (parts_in (portions l.start (drop l.start l.bytes))))
-    (l.marks, record { codes = l.codes; code = l.code }) l.at
+abbrev pub invariant-loop-part : goal.invariant-loop-part
+invariant-loop-part l = Going l.bytes l.index (sees l.index (l.initial.marks, l.fn.before) (parts_in (portions l.start (drop l.start l.bytes))))
+    (l.marks, l.seen) l.at
 
-abbrev pub decreases-loop-c : goal.decreases-loop-c
-decreases-loop-c l = length l.bytes - l.at
+abbrev pub decreases-loop-part : goal.decreases-loop-part
+decreases-loop-part l = length l.bytes - l.at

@@ -1,13 +1,8 @@
 -- `judge` meets its contract: from where the loop stands, the rows that are left give the same outcome (`Reached`), in the room as it
 -- would be written.
 -- Assumes nothing.
-use Prim.Native.Nat.{◌-◌}
-use lib.ListN.{length}
 use Rattle.options.proofs.Runs.{Judged}
 use Rattle.options.proofs.rows.judge.Given as goal
 
 abbrev pub invariant-loop-row : goal.invariant-loop-row
-invariant-loop-row l = Judged l.rows l.values l.room l.place l.at l.k l.row
-
-abbrev pub decreases-loop-row : goal.decreases-loop-row
-decreases-loop-row l = length l.rows - l.k
+invariant-loop-row l = Judged l.rows l.values l.room l.place l.at l.row

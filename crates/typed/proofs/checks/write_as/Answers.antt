@@ -1,14 +1,13 @@
--- `write_as` meets its contract: a refusal by its number, or a byte value's write.
+-- `write_as` meets its contract: a refusal, or a byte value's write.
 -- Assumes nothing.
-use Rattle.rfc.proofs.Numbers.{code_none}
-use Rattle.typed.proofs.Answers.{code_refused, as_bytes}
+use Rattle.std.proofs.lemmas.Result.{err_from_is_err_and}
+use Rattle.typed.proofs.Answers.{code_refused, code_none, as_bytes}
 use Rattle.typed.proofs.checks.write_as.Goals as goal
 
-pub returns-then-number-gt0 : goal.returns-then-number-gt0
-returns-then-number-gt0 c = code_refused _ _ _ _ _ c.refusal-number.ensures c.if-number-gt0.true
+pub returns-in_err-writable : goal.returns-in_err-writable
+returns-in_err-writable c =
+    let e = err_from_is_err_and c.from_residual.result c.from_residual.ensures.1 in
+    rw (e.1, e.2) (code_refused _ _ _ _ _ _ c.in_err-writable.ensures)
 
 pub returns : goal.returns
-returns c =
-    as_bytes _ _ _ _ _ c.requires
-    (code_none _ _ _ _ c.refusal-number.ensures c.if-number-gt0.false)
-    c.write_bytes.ensures
+returns c = as_bytes _ _ _ _ _ c.requires (code_none _ _ _ _ c.in_ok-writable.ensures) c.write_bytes.ensures
