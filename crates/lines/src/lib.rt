@@ -108,6 +108,7 @@ fn put_address(text: &mut [u8], at: usize, message: &[u8]) -> usize
 }
 
 // Adds the end of the address's line, and in front of it the word for an address that spills.
+#[tactic(auto, unfolding(crate::specs::Listing::spill_text))]
 fn put_spill(text: &mut [u8], at: usize, spills: bool) -> usize
     ensures { (text.new, result) ≡ adds_all (text.old, at) (spill_text spills) }
 {
