@@ -109,10 +109,15 @@ CONVERSIONS = ("From", "TryFrom")
 def owner_of(found, at):
     """What stands before the names of the functions of the `impl` at `at`, whether it is one of a conversion, and where its brace opens."""
     opening = next(i for i in range(at, len(found)) if found[i].text == "{")
-    head = [token.text for token in found[at + 1 : opening]]
+    head, depth = [], 0
+    for token in found[at + 1 : opening]:
+        # What stands in the first brackets, right behind `impl`, are its parameters.
+        depth += {"<": 1, ">": -1}.get(token.text, 0) if not head else 0
+        if token.kind == "word" and depth == 0:
+            head.append(token.text)
     if "for" not in head:
         return head[0] + "::", False, opening
-    trait = [word for word in head[: head.index("for")] if word[0].isalpha()]
+    trait = head[: head.index("for")]
     words = [head[head.index("for") + 1], *trait]
     return "".join(word[0].upper() + word[1:] for word in words) + "::", trait[0] in CONVERSIONS, opening
 
