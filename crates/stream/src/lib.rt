@@ -27,7 +27,8 @@ pub enum Stream {
 // What a call answers.
 #[derive(Clone, Copy, Debug, PartialEq, Eq)]
 pub struct Taken {
-    // A message, by its length: it is the first bytes of the buffer. None where the chunk is used up before one is whole.
+    // A message, by its length: it is the first bytes of the buffer. None where the chunk is used up before one is whole. A frame of
+    // fewer than 240 bytes is refused, and a size that is more than the buffer has.
     pub frame: Result<Option<usize>, Refusal>,
     // How many bytes of the chunk were read.
     pub used: usize,
@@ -43,7 +44,7 @@ pub fn receive(stream: Stream, buffer: &mut [u8], chunk: &[u8]) -> Taken
         Stream::Between => start_size(buffer, chunk),
         Stream::Sizing(high) => end_size(high, buffer, chunk, 0),
         Stream::Filling { size, filled } => gather(size, filled, buffer, chunk, 0),
-        Stream::Shut => refuse(0),
+        Stream::Shut => shut(0),
     }
 }
 
@@ -76,7 +77,7 @@ fn gather(size: u16, filled: u16, buffer: &mut [u8], rest: &[u8], used: usize) -
     let all = size as usize;
     let have = filled as usize;
     if all > buffer.len() {
-        return refuse(used);
+        return shut(used);
     }
     if have >= all {
         return hand_out(all, used);
@@ -107,8 +108,8 @@ fn more(used: usize, stream: Stream) -> Taken
     }
 }
 
-// A size is more than the buffer has, or was.
-fn refuse(used: usize) -> Taken
+// A size is more than the buffer has, or was: the stream is refused until it is reset.
+fn shut(used: usize) -> Taken
     ensures { result ≡ taken_of (Err SizeAboveBuffer) used Shut }
 {
     Taken {

@@ -5,7 +5,7 @@ use Rattle.stream.proofs.Answers.{large, none_missing, part_put, full_put}
 use Rattle.stream.proofs.gather.Goals as goal
 
 pub returns-then-all-buffer : goal.returns-then-all-buffer
-returns-then-all-buffer c = large _ _ _ _ _ (omega arith) c.refuse.ensures
+returns-then-all-buffer c = large _ _ _ _ _ (omega arith) c.shut.ensures
 
 pub returns-then-have-all : goal.returns-then-have-all
 returns-then-have-all c = none_missing _ _ _ _ _ (omega arith) (omega arith) c.hand_out.ensures

@@ -18,4 +18,4 @@ returns-in-Filling c = rw c.in-Filling.is c.gather.ensures
 
 pub returns-in-Shut : goal.returns-in-Shut
 unfolding rfc.receive
-returns-in-Shut c = rw (c.in-Shut.is, c.refuse.ensures) (record { tells = refl; used = refl; stands = refl; left = refl })
+returns-in-Shut c = rw (c.in-Shut.is, c.shut.ensures) (record { tells = refl; used = refl; stands = refl; left = refl })
