@@ -1,5 +1,5 @@
+pub mod Ahead
 pub mod Telling
-pub mod Measured
 pub mod Whole
 pub mod Unique
 pub mod Room

@@ -1,10 +1,9 @@
 -- `put_chaddr` meets its contract: the word, and the address or its refusal.
 -- Assumes nothing.
-use Rattle.pen.proofs.Adding.{both}
+use Rattle.pen.proofs.Added.{both}
 use Rattle.lines.specs.Listing.{chaddr_line}
 use Rattle.lines.proofs.put_chaddr.Goals as goal
 
 pub returns : goal.returns
 unfolding chaddr_line
-returns c =
-    both _ _ _ c.put_word-to.ensures c.put_address.ensures
+returns c = both c.word.ensures c.put_address.ensures

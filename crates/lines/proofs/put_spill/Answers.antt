@@ -1,14 +1,14 @@
 -- `put_spill` meets its contract: the word where the address spills, and the end of the line.
 -- Assumes nothing.
+use Rattle.pen.proofs.Added.{both}
 use Rattle.lines.specs.Listing.{spill_text}
 use Rattle.lines.proofs.put_spill.Goals as goal
-
-pub returns-then-spills : goal.returns-then-spills
-unfolding spill_text
-returns-then-spills c =
-    rw c.if-spills.true c.put_word.ensures
+use Rattle.lines.proofs.put_spill.Goals.{then-spills, else-spills}
 
 pub returns : goal.returns
 unfolding spill_text
 returns c =
-    rw c.if-spills.false c.put_word-2.ensures
+    elim c.if-spills.branch [
+      | then-spills w ↦ rw w.if-spills.true (both w.word.ensures (rw w.pen-is at c.word-2.ensures))
+      | else-spills w ↦ rw w.if-spills.false (rw w.pen-is at c.word-2.ensures)
+    ]
