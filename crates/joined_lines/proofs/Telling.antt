@@ -3,7 +3,6 @@
 use mathlib.Core.Path.{◌≡◌, refl, sym, ap, ◌∙◌}
 use Prim.Native.Nat.{ℕ, suc, ◌+◌, ◌-◌, ◌≤◌, ◌<◌}
 use native.Mathlib.Omega.{arith}
-use mathlib.Core.Bool.{Bool, cond}
 use mathlib.Core.List.{List, [], ◌++◌}
 use lib.ListN.{length}
 use borrow.Author.Tests.{lt-ltb, le-ltb}
@@ -11,7 +10,6 @@ use Rattle.rfc.specs.Numbers.{Answer, given}
 use Rattle.rfc.specs.Header.{Area, area}
 use Rattle.rfc.specs.Walk.{Found, Stop, stop, option}
 use Rattle.rfc.specs.Aggregate.{entry}
-use Rattle.rfc.proofs.Naming.{Names}
 use Rattle.refusal.specs.declared.Refusal.{Refusal}
 use Rattle.refusal.specs.Told.{says, number_of}
 use Rattle.refusal.proofs.Told.{says_as}
@@ -20,14 +18,7 @@ use Rattle.pen.proofs.Adding.{both}
 use Rattle.lines.specs.Words as words
 use Rattle.lines.specs.Words.{newline}
 use Rattle.lines.specs.Listing.{most_listed, refused_line, option_line}
-use Rattle.joined_lines.specs.JoinedWords as joined
-use Rattle.joined_lines.specs.Joined.{fields_line, codes_line, in_turn, entries_in, fields_lines, joined_lines, joined_listing}
-
--- line 1
-pub fields_named : (overload : ℕ) (file sname : Bool) → Names overload file sname
-    → joined.fields ++ joined.options ++ cond file joined.file [] ++ cond sname joined.sname [] ++ newline ≡ fields_line overload
-unfolding fields_line
-fields_named overload file sname (e, g) = rw (e, g)
+use Rattle.joined_lines.specs.Joined.{codes_line, in_turn, entries_in, fields_lines, joined_lines, joined_listing}
 
 -- what a refusal says is its number's line
 pub fields_refused : (message : List ℕ) (e : Refusal) → fields_lines message (says e) ≡ refused_line (number_of e)

@@ -76,6 +76,7 @@ fn put_fields(text: &mut [u8], at: usize, message: &[u8]) -> usize
 }
 
 // The line of the fields that option 52 names.
+#[tactic(auto, unfolding(crate::specs::Joined::fields_line, rfc::specs::Aggregate::names_file, rfc::specs::Aggregate::names_sname))]
 fn fields_line(named: usize) -> &'static [u8]
     ensures { result.now ≡ fields_line named }
 {

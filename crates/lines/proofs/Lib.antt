@@ -1,5 +1,5 @@
-pub mod Ahead
 pub mod Telling
+pub mod Resting
 pub mod Whole
 pub mod Unique
 pub mod Room

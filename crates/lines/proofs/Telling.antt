@@ -71,7 +71,7 @@ module _ (area : List ℕ) (room place calls i : ℕ) (some : i < calls) where
   unfolding onward
   lines_more code parts at v told = lines_next (given (walk.option code v parts at)) told
 
-pub lines_none : (room : ℕ) (area : List ℕ) (place calls i : ℕ) → calls ≤ i → lines_in (calls - i) room area place ≡ []
+pub lines_none : (room : ℕ) (area : List ℕ) (place calls i : ℕ) → calls ≤ i → [] ≡ lines_in (calls - i) room area place
 unfolding lines_in
 lines_none room area place calls i h =
     let none : calls - i ≡ 0 = omega arith in

@@ -8,7 +8,7 @@ ghost use Rattle.rfc.specs.Writing.{into_room};
 ghost use Rattle.encoder.specs.Written.{Wrote};
 ghost use Rattle.borrowed.specs.Walked.{stop_of};
 ghost use Rattle.pen.specs.Added.{Added};
-ghost use Rattle.lines.specs.Listing.{message_line, spill_text, address_text, chaddr_line, area_lines, listing};
+ghost use Rattle.lines.specs.Listing.{message_line, address_text, area_lines, listing};
 ghost use Rattle.lines.specs.Listing.{refused_line, option_line, stop_word, stop_line, lines_in};
 ghost use Rattle.lines.specs.Listed.{Listed};
 
@@ -30,16 +30,18 @@ struct Listing<'a> {
 impl<'a> Show for Listing<'a> {
     ghost text = { λ it. listing it.message.now };
 
-    // Adds the whole listing.
     fn show(&self, pen: &mut Pen) {
         if self.message.len() > MOST_LISTED {
-            return pen.word(b"too long\n");
+            pen.word(b"too long\n");
+            return;
         }
         if self.message.len() < LEAST_MESSAGE {
-            return put_refused(pen, 1);
+            put_refused(pen, Refusal::MessageTooShort.number());
+            return;
         }
         put_message(pen, self.message);
-        put_chaddr(pen, self.message);
+        pen.word(b"chaddr");
+        put_address(pen, self.message);
         put_area(pen, self.message);
     }
 }
@@ -73,14 +75,6 @@ fn put_message(pen: &mut Pen, message: &[u8])
     pen.word(b"\n");
 }
 
-// Adds the line of the hardware address.
-fn put_chaddr(pen: &mut Pen, message: &[u8])
-    ensures { Added pen.old pen.new (chaddr_line message.now) }
-{
-    pen.word(b"chaddr");
-    put_address(pen, message);
-}
-
 // Adds the bytes of the hardware address and whether it spills, or its refusal.
 fn put_address(pen: &mut Pen, message: &[u8])
     ensures { Added pen.old pen.new (address_text message.now (rfc.chaddr message.now)) }
@@ -88,23 +82,16 @@ fn put_address(pen: &mut Pen, message: &[u8])
     match Header::chaddr(message) {
         Ok(chaddr) => {
             pen.spaced(borrowed::part(message, chaddr.start, chaddr.len));
-            put_spill(pen, chaddr.spills);
+            if chaddr.spills {
+                pen.word(b" spill");
+            }
+            pen.word(b"\n");
         }
         Err(refusal) => {
             pen.word(b" ");
             put_refused(pen, refusal.number());
         }
     }
-}
-
-// Adds the word for an address that spills, and the end of the address's line.
-fn put_spill(pen: &mut Pen, spills: bool)
-    ensures { Added pen.old pen.new (spill_text spills) }
-{
-    if spills {
-        pen.word(b" spill");
-    }
-    pen.word(b"\n");
 }
 
 // Adds the lines of the options.

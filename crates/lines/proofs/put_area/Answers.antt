@@ -1,6 +1,6 @@
 -- `put_area` meets its contract: the options' lines, or what stands in their place.
 -- Assumes nothing.
-use Rattle.std.proofs.Common.{sym, ◌∙◌}
+use mathlib.Core.Path.{sym, ◌∙◌}
 use Rattle.rfc.proofs.Header.{area_inside}
 use Rattle.borrowed.proofs.Shown.{part_there}
 use Rattle.lines.specs.Listing.{area_lines}
@@ -16,7 +16,10 @@ returns-in-Ok-Some c =
 
 pub returns-in-Ok-None : goal.returns-in-Ok-None
 unfolding area_lines
-returns-in-Ok-None c = rw (← rw c.in-Ok-None.field-0-is at c.in-Ok-None.ensures) c.word.ensures
+returns-in-Ok-None c =
+    let told = rw c.in-Ok-None.field-0-is at c.in-Ok-None.ensures in
+    rw (← told) c.word.ensures
 
 pub returns-in-Err : goal.returns-in-Err
-returns-in-Err c = rw (← c.in-Err.ensures, area_refused, ← c.number.ensures) c.put_refused.ensures
+returns-in-Err c =
+    rw (← c.in-Err.ensures, area_refused, ← c.number.ensures) c.put_refused.ensures

@@ -25,5 +25,5 @@ returns c =
     let is-htype = field_is _ header.htype c.requires _ c.htype.ensures _ c.unwrap-2.ensures in
     let is-hlen = field_is _ header.hlen c.requires _ c.hlen.ensures _ c.unwrap-3.ensures in
     let is-xid = field_is _ header.xid c.requires _ c.xid.ensures _ c.unwrap-4.ensures in
-    let three = both (both c.named.ensures c.named-2.ensures) c.named-3.ensures in
-    rw (is-op, is-htype, is-hlen, is-xid) (both (both (both three c.named-4.ensures) c.named-5.ensures) c.word.ensures)
+    rw (is-op, is-htype, is-hlen, is-xid)
+    (both (both (both (both (both c.named.ensures c.named-2.ensures) c.named-3.ensures) c.named-4.ensures) c.named-5.ensures) c.word.ensures)

@@ -7,6 +7,5 @@ use Rattle.lines.proofs.put_option.Goals as goal
 pub returns : goal.returns
 unfolding option_line
 returns c =
-    let numbers = both (both c.named.ensures c.named-2.ensures) c.named-3.ensures in
     rw (← c.kind_of.ensures, ← c.number.ensures)
-    (both (both (both numbers c.word.ensures) c.spaced.ensures) c.word-2.ensures)
+    (both (both (both (both (both c.named.ensures c.named-2.ensures) c.named-3.ensures) c.word.ensures) c.spaced.ensures) c.word-2.ensures)

@@ -40,11 +40,11 @@ loop-k-preserved g c =
 pub returns-in-Stopped : goal.returns-in-Stopped
 returns-in-Stopped g c =
     let l = c.loop-k in
-    lists_given _ _ _ _ c.if-area-gt-MOST_BYTES.false c.if-place-area.false l.invariant.wide _ _
+    lists_given _ _ _ _ c.if-area-gt-MOST_BYTES.false c.if-place-area.false l.invariant.wide
     (going_stop l.invariant c.loop-k-test.true (rw c.in-Stopped.is at c.in_ok-found.ensures))
 
 pub returns : goal.returns
 returns g c =
     let l = c.loop-k in
-    lists_given _ _ _ _ c.if-area-gt-MOST_BYTES.false c.if-place-area.false l.invariant.wide _ _
+    lists_given _ _ _ _ c.if-area-gt-MOST_BYTES.false c.if-place-area.false l.invariant.wide
     (going_full l.invariant l.auto.k-end c.loop-k-test.false)
