@@ -12,7 +12,7 @@ returns-in-Ok-Some c =
 pub returns-in-Ok-None : goal.returns-in-Ok-None
 unfolding joined_lines
 returns-in-Ok-None c =
-    rw (← rw c.in-Ok-None.field-0-is at c.in-Ok-None.ensures) c.put_word.ensures
+    rw (← rw c.in-Ok-None.field-0-is at c.in-Ok-None.ensures) c.word.ensures
 
 pub returns-in-Err : goal.returns-in-Err
 returns-in-Err c =

@@ -18,7 +18,7 @@ pub returns-in-Ok-None : goal.returns-in-Ok-None
 unfolding area_lines
 returns-in-Ok-None c =
     let told = rw c.in-Ok-None.field-0-is at c.in-Ok-None.ensures in
-    rw (← told) c.put_word.ensures
+    rw (← told) c.word.ensures
 
 pub returns-in-Err : goal.returns-in-Err
 returns-in-Err c =
