@@ -12,8 +12,8 @@ pub record Resting (old new : Pen) (whole rest : List ℕ) : Type 0 where
   pub added : Added old new so_far
   pub all : so_far ++ rest ≡ whole
 
-pub begins : (p : Pen) (whole : List ℕ) → Resting p p whole whole
-begins p whole = record { so_far = []; added = nothing p; all = refl }
+pub begins : (p : Pen) {whole rest : List ℕ} → rest ≡ whole → Resting p p whole rest
+begins p e = record { so_far = []; added = nothing p; all = e }
 
 module _ {p q r : Pen} {whole rest : List ℕ} (s : Resting p q whole rest) where
   pub goes_on : (part next : List ℕ) → Added q r part → part ++ next ≡ rest → Resting p r whole next

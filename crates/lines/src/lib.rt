@@ -63,6 +63,7 @@ pub fn put_refused(pen: &mut Pen, number: u8)
 }
 
 // Adds the line of the message's length and of four numbers of its header, none of which is refused.
+#[tactic(auto, using(crate::proofs::Telling::field_given))]
 fn put_message(pen: &mut Pen, message: &[u8])
     requires { Listed message.now }
     ensures { Added pen.old pen.new (message_line message.now) }
@@ -95,6 +96,7 @@ fn put_address(pen: &mut Pen, message: &[u8])
 }
 
 // Adds the lines of the options.
+#[tactic(auto, using(crate::proofs::Telling::area_refused), unfolding(crate::specs::Listing::area_lines))]
 fn put_area(pen: &mut Pen, message: &[u8])
     ensures { Added pen.old pen.new (area_lines message.now (rfc.area message.now)) }
 {
@@ -110,6 +112,7 @@ fn put_area(pen: &mut Pen, message: &[u8])
 }
 
 // Adds a line for each option, and the ending, in no more than so many calls of the walk.
+#[tactic(auto, using(crate::proofs::Resting::begins))]
 fn put_options(pen: &mut Pen, area: &[u8], join: &mut [u8], calls: usize)
     ensures { Added pen.old pen.new (lines_in calls (length join.old) area.now 0) }
 {

@@ -10,6 +10,3 @@ unfolding fields_lines
 returns-in-Ok c =
     rw (← c.in-Ok.ensures, ← c.fields_line.ensures) (both c.word.ensures c.put_entries.ensures)
 
-pub returns-in-Err : goal.returns-in-Err
-returns-in-Err c =
-    rw (← c.in-Err.ensures, fields_refused, ← c.number.ensures) c.put_refused.ensures
