@@ -25,6 +25,7 @@ struct Joined<'a> {
 impl<'a> Show for Joined<'a> {
     ghost text = { λ it. joined_listing it.message.now };
 
+    #[tactic(auto, using(crate::proofs::Telling::joined_long, crate::proofs::Telling::joined_whole))]
     fn show(&self, pen: &mut Pen) {
         if self.message.len() > MOST_LISTED {
             pen.word(b"too long\n");
