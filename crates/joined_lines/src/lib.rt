@@ -17,7 +17,7 @@ use pen::{Pen, Show};
 use refusal::Refusal;
 
 // A message that is listed in this reading.
-#[derive(Clone, Copy)]
+#[derive(Drop)]
 struct Joined<'a> {
     message: &'a [u8],
 }

@@ -1,6 +1,6 @@
 -- A whole text that a pen adds part by part: what it has added so far stands in front of the rest.
 -- Assumes nothing.
-use mathlib.Core.Path.{◌≡◌, refl, ap, ◌∙◌}
+use mathlib.Core.Path.{◌≡◌, ap, ◌∙◌}
 use Prim.Native.Nat.{ℕ}
 use mathlib.Core.List.{List, [], ◌++◌, append_assoc}
 use Rattle.pen.specs.declared.Pen.{Pen}

@@ -22,7 +22,7 @@ use refusal::Refusal;
 pub const MOST_LISTED: usize = 4096;
 
 // A message that is listed.
-#[derive(Clone, Copy)]
+#[derive(Drop)]
 struct Listing<'a> {
     message: &'a [u8],
 }
@@ -30,6 +30,7 @@ struct Listing<'a> {
 impl<'a> Show for Listing<'a> {
     ghost text = { λ it. listing it.message.now };
 
+    #[tactic(auto, using(crate::proofs::Telling::listing_long, crate::proofs::Telling::listing_short))]
     fn show(&self, pen: &mut Pen) {
         if self.message.len() > MOST_LISTED {
             pen.word(b"too long\n");

@@ -3,7 +3,7 @@
 use Rattle.pen.proofs.Added.{both}
 use Rattle.rfc.specs.Header as header
 use Rattle.lines.specs.Listing.{message_line}
-use Rattle.lines.proofs.Telling.{field_given, field_is}
+use Rattle.lines.proofs.Telling.{field_is}
 use Rattle.lines.proofs.put_message.Goals as goal
 
 pub returns : goal.returns

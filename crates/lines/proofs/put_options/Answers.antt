@@ -1,8 +1,6 @@
 -- `put_options` meets its contract: the rest of the text is what the calls that are left give from where the loop stands.
 -- Assumes nothing.
-use mathlib.Core.Path.{◌≡◌, refl, ap, ◌∙◌}
-use Prim.Native.Nat.{◌-◌}
-use native.Mathlib.Omega.{arith}
+use mathlib.Core.Path.{ap, ◌∙◌}
 use Rattle.rfc.specs.Walk as walk
 use Rattle.pen.proofs.Added.{nothing}
 use Rattle.lines.specs.Listing.{refused_line}
