@@ -125,5 +125,5 @@ module _ (rs : List Route) (room : List ℕ) (place : ℕ) where
       → d ≡ laid p (map made_of rs) room → Done w most_part rfc.routes_code (map made_of rs) room place d
   wrote p d e f =
       rw f
-      (both_passes w most_part rfc.routes_code (map made_of rs) room place p e (lit< tt) (made_known rs)
-      (routes_2 (rows_of rs) room place) (routes_4 (rows_of rs) room place) decides)
+      (both_passes w most_part rfc.routes_code (map made_of rs) room place p e
+      (routes_2 (rows_of rs) room place) (routes_4 (rows_of rs) room place) (lit< tt) (made_known rs) decides)

@@ -26,16 +26,14 @@ impl Rows for Table<'_> {
 
     ghost known = { λ t. made_known t.routes.now };
 
-    fn measure(&self, pass: Pass) -> Pass {
-        let mut pass = pass;
+    fn measure(&self, mut pass: Pass) -> Pass {
         for route in self.routes {
             pass = pass.measure(measured(*route));
         }
         pass
     }
 
-    fn put(&self, room: &mut [u8], pass: Pass) -> Pass {
-        let mut pass = pass;
+    fn put(&self, room: &mut [u8], mut pass: Pass) -> Pass {
         for route in self.routes {
             pass = classless::put_route(room, pass, *route);
         }
