@@ -1,9 +1,7 @@
 -- `put_entries` meets its contract: the rest of the text is what the calls that are left give.
 -- Assumes nothing.
-use mathlib.Core.Path.{◌≡◌, refl, ap, ◌∙◌}
-use Prim.Native.Nat.{◌-◌}
-use native.Mathlib.Omega.{arith}
-use lib.ListN.{length}
+use mathlib.Core.Path.{refl, ap, ◌∙◌}
+use native.Mathlib.Numerals.{unary_clauses}
 use Rattle.rfc.specs.Aggregate.{entry}
 use Rattle.pen.proofs.Added.{nothing}
 use Rattle.lines.specs.Listing.{refused_line}
@@ -12,9 +10,7 @@ use Rattle.joined_lines.proofs.Telling.{entries_stopped, entries_refused, entrie
 use Rattle.joined_lines.proofs.put_entries.Goals as goal
 
 pub loop-index-init : goal.loop-index-init
-loop-index-init c =
-    let all : length c.args.message.now - 0 ≡ length c.args.message.now = omega arith in
-    (rw all (begins _ _), refl)
+loop-index-init c = simp unary_clauses (begins _ _, refl)
 
 pub loop-index-preserved : goal.loop-index-preserved
 loop-index-preserved c =

@@ -1,8 +1,7 @@
 -- `put_options` meets its contract: the rest of the text is what the calls that are left give from where the loop stands.
 -- Assumes nothing.
-use mathlib.Core.Path.{◌≡◌, refl, ap, ◌∙◌}
-use Prim.Native.Nat.{◌-◌}
-use native.Mathlib.Omega.{arith}
+use mathlib.Core.Path.{refl, ap, ◌∙◌}
+use native.Mathlib.Numerals.{unary_clauses}
 use Rattle.rfc.specs.Walk as walk
 use Rattle.pen.proofs.Added.{nothing}
 use Rattle.lines.specs.Listing.{refused_line}
@@ -11,9 +10,7 @@ use Rattle.lines.proofs.Telling.{lines_stopped, lines_refused, lines_more, lines
 use Rattle.lines.proofs.put_options.Goals as goal
 
 pub loop-init : goal.loop-init
-loop-init c =
-    let all : c.args.calls - 0 ≡ c.args.calls = omega arith in
-    (rw all (begins _ _), refl)
+loop-init c = simp unary_clauses (begins _ _, refl)
 
 pub loop-preserved : goal.loop-preserved
 loop-preserved c =
