@@ -174,12 +174,14 @@ fn copy_bytes(from: &[u8], to: &mut [u8], place: usize)
     }
 }
 
-// Copies the `N` bytes of `from` at `i` into `to` at `at`. The compiler knows how many they are, and makes one load and one store of it.
+// Copies the `N` bytes of `from` at `i` into `to` at `at`. All are read before one is stored, so that the compiler, which knows how many they
+// are, makes one load and one store of them.
 fn block<const N: usize>(from: &[u8], i: usize, to: &mut [u8], at: usize)
     requires { (i + N ≤ length from.now) × (at + N ≤ length to.old) }
     ensures { to.new ≡ over to.old at (take N (drop i from.now)) }
 {
-    put_bytes(to, at, &from[i..i + N]);
+    let bytes: [u8; N] = *from[i..i + N].as_array().unwrap();
+    put_bytes(to, at, &bytes);
 }
 
 // Puts bytes at `at`.
