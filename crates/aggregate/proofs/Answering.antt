@@ -5,6 +5,7 @@ use mathlib.Core.Path.{◌≡◌, sym, ap, ◌∙◌}
 use native.Mathlib.Omega.{arith}
 use mathlib.Core.List.{List, [], ◌∷◌}
 use lib.ListN.{length, take, drop}
+use Rattle.std.specs.Prelude.{Result, Ok, Err}
 use Rattle.facts.specs.Over.{over}
 use Rattle.facts.proofs.Over.{length_over, over_nil, shown_over}
 use Rattle.rfc.specs.Numbers.{Answer, given, needs}
@@ -19,10 +20,16 @@ use Rattle.borrowed.specs.Walked.{Walked}
 use Rattle.borrowed.specs.declared.answer.Stop.TheVariants.{Out}
 use Rattle.borrowed.specs.declared.answer.Step.{Step}
 use Rattle.borrowed.specs.declared.answer.Step.TheVariants as step
+use Rattle.refusal.specs.declared.Refusal.{Refusal}
+use Rattle.refusal.specs.declared.Refusal.TheVariants.{JoinTooShort}
 use Rattle.borrowed.proofs.Shown.{part_there, shown_one, shown_many}
 use Rattle.aggregate.specs.Tallies.{none, tallied}
 use Rattle.aggregate.specs.declared.tally.Tally.{Tally}
 use Rattle.aggregate.proofs.Gathering.{Amounts, amounts}
+
+-- an option by what was counted of its code
+abbrev found_as : ℕ → Tally → Result Step Refusal
+found_as code t = Ok (step.Found (record { code = code; parts = t.parts; len = t.len; place = t.place }))
 
 -- the option that they are, by these numbers
 found : (code : ℕ) {t : Tally} (p : Portion) (ps : List Portion) → Amounts t (p ∷ ps) → (v : List ℕ) → v ≡ joined_value (p ∷ ps)
@@ -31,16 +38,16 @@ found code p ps a v e = λ i. option code (e i) (a.parts i) ((a.place ∙ sym (b
 
 -- an answer for the parts of a code, from a join buffer to a join buffer
 module _ (message : List ℕ) (code : ℕ) (join : List ℕ) where
-  abbrev Answers : List Portion → List ℕ → Step → Type 0
+  abbrev Answers : List Portion → List ℕ → Result Step Refusal → Type 0
   Answers ps join' r = Walked message join join' r (room_for (length join) (option_from code ps))
 
-  no_part : {t : Tally} (ps : List Portion) → Amounts t ps → t.parts ≡ 0 → Answers ps join (step.Stopped Out 0)
+  no_part : {t : Tally} (ps : List Portion) → Amounts t ps → t.parts ≡ 0 → Answers ps join (Ok (step.Stopped Out 0))
   no_part [] a z =
       let is = ap (room_for (length join)) (option_none code) ∙ stop_answered (length join) out 0 in
       record { told = sym is; inside = tt; kept = sym (ap (λ (x : Answer Found). join_after x join) is ∙ stop_keeps join out 0) }
   no_part (p ∷ ps) a z = absurd (let f : ⊥ = omega (arith, a.parts) in f)
 
-  too_long : {t : Tally} (ps : List Portion) → Amounts t ps → 1 < t.parts → length join < t.len → Answers ps join (step.Needs t.len)
+  too_long : {t : Tally} (ps : List Portion) → Amounts t ps → 1 < t.parts → length join < t.len → Answers ps join (Err (JoinTooShort t.len))
   too_long [] a h g = absurd (let f : ⊥ = omega (arith, a.parts) in f)
   too_long (p ∷ ps) a h g =
       let v : List ℕ = joined_value (p ∷ ps) in
@@ -53,7 +60,7 @@ module _ (message : List ℕ) (code : ℕ) (join : List ℕ) where
       }
 
   one_part : {t : Tally} (ps : List Portion) → AllInPlace message ps → Amounts t ps → t.parts ≡ 1
-      → Answers ps join (step.Found code t.parts t.len t.place)
+      → Answers ps join (found_as code t)
   one_part [] s a h = absurd (let f : ⊥ = omega (arith, a.parts) in f)
   one_part (p ∷ q ∷ ps) s a h = absurd (let f : ⊥ = omega (arith, a.parts) in f)
   one_part {t} (p ∷ []) s a h =
@@ -75,7 +82,7 @@ module _ (message : List ℕ) (code : ℕ) (join : List ℕ) where
       }
 
   many_parts : {t : Tally} (ps : List Portion) → AllInPlace message ps → Amounts t ps → 1 < t.parts → t.len ≤ length join → {join' : List ℕ}
-      → join' ≡ over join 0 (joined_value ps) → Answers ps join' (step.Found code t.parts t.len t.place)
+      → join' ≡ over join 0 (joined_value ps) → Answers ps join' (found_as code t)
   many_parts [] s a h g j = absurd (let f : ⊥ = omega (arith, a.parts) in f)
   many_parts {t} (p ∷ ps) s a h g {join'} j =
       let v : List ℕ = joined_value (p ∷ ps) in
@@ -96,7 +103,7 @@ module _ (message : List ℕ) (code : ℕ) (join : List ℕ) {t : Tally} (e : t 
   abbrev of : List Portion
   of = of_code code (aggregate (fields_of message))
 
-  abbrev Is : List ℕ → Step → Type 0
+  abbrev Is : List ℕ → Result Step Refusal → Type 0
   Is join' r = Walked message join join' r (option_of (fields_of message) code (length join))
 
   are : Amounts t of
@@ -109,21 +116,21 @@ module _ (message : List ℕ) (code : ℕ) (join : List ℕ) {t : Tally} (e : t 
   pub value_fits : t.len ≤ length join → length (joined_value of) ≤ length join
   value_fits h = omega (arith, are.len)
 
-  pub answers_none : t.parts ≡ 0 → Is join (step.Stopped Out 0)
+  pub answers_none : t.parts ≡ 0 → Is join (Ok (step.Stopped Out 0))
   answers_none h = rw (option-of (fields_of message) code (length join)) (no_part message code join of are h)
 
-  pub answers_needs : 1 < t.parts → length join < t.len → Is join (step.Needs t.len)
+  pub answers_needs : 1 < t.parts → length join < t.len → Is join (Err (JoinTooShort t.len))
   answers_needs h g = rw (option-of (fields_of message) code (length join)) (too_long message code join of are h g)
 
-  pub answers_one : t.parts ≡ 1 → Is join (step.Found code t.parts t.len t.place)
+  pub answers_one : t.parts ≡ 1 → Is join (found_as code t)
   answers_one h = rw (option-of (fields_of message) code (length join)) (one_part message code join of in_place are h)
 
   pub answers_many : 1 < t.parts → t.len ≤ length join → {join' : List ℕ} → join' ≡ over join 0 (joined_value of)
-      → Is join' (step.Found code t.parts t.len t.place)
+      → Is join' (found_as code t)
   answers_many h g j = rw (option-of (fields_of message) code (length join)) (many_parts message code join of in_place are h g j)
 
   -- values with no byte join nothing
-  pub answers_empty : 1 < t.parts → t.len ≤ 0 → Is join (step.Found code t.parts t.len t.place)
+  pub answers_empty : 1 < t.parts → t.len ≤ 0 → Is join (found_as code t)
   answers_empty h z = answers_many h (omega arith) (sym (nothing (joined_value of) (omega (arith, are.len))))
     where
       nothing : (v : List ℕ) → length v ≤ 0 → over join 0 v ≡ join

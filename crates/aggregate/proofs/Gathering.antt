@@ -1,20 +1,22 @@
 -- The parts of one code, counted field after field.
 -- Assumes nothing.
 use Prim.Native.Nat.{ℕ, ◌+◌, ◌≤◌}
-use mathlib.Core.Path.{◌≡◌, sym, ap, ◌∙◌}
+use mathlib.Core.Path.{◌≡◌, refl, sym, ap, ◌∙◌}
 use native.Mathlib.Omega.{arith}
 use mathlib.Core.Bool.{cond}
 use mathlib.Core.List.{List, [], ◌∷◌, ◌++◌}
 use lib.ListN.{length, drop, length-drop}
 use lib.Dec.{eqb}
+use Rattle.std.specs.Prelude.{Result, Ok}
 use native.Mathlib.Decide.{ℕ_discrete}
 use borrow.Author.Tests.{eq-eqb, ne_eqb}
-use Rattle.rfc.specs.Portions.{Portion, whole, portions, of_code, joined_value}
+use Rattle.std.specs.Result.{IsOk}
+use Rattle.refusal.specs.declared.Refusal.{Refusal}
+use Rattle.rfc.specs.Portions.{Portion, Portions, whole, portions, of_code, joined_value}
 use Rattle.rfc.proofs.Sizes.{fits_field, of_code_fits, first_length, joined_none}
 use Rattle.rfc.proofs.OfCode.{of_none, of_first, of_other, last_or}
 use Rattle.aggregate.specs.Tallies.{tally, none, tallied, counted}
 use Rattle.aggregate.specs.declared.tally.Tally.{Tally}
-use Rattle.aggregate.proofs.Tallying.{cut_aside}
 
 -- what was counted, by the parts of the code
 tallied_is : (code : ℕ) (t : Tally) (ps : List Portion)
@@ -59,7 +61,7 @@ amounts code ps e =
 -- parts behind others are counted behind them
 tallied_both : (code : ℕ) (t : Tally) (ps qs : List Portion) → tallied code t (ps ++ qs) ≡ tallied code (tallied code t ps) qs
 unfolding tallied
-tallied_both code t [] qs = cut_aside code t (whole qs)
+tallied_both code t [] qs = refl
 tallied_both code t (p ∷ ps) qs = tallied_both code (cond (eqb p.code code) (tally (t.parts + 1) (t.len + length p.value) p.place) t) ps qs
 
 -- no more is counted of a field than it has bytes
@@ -78,11 +80,16 @@ pub counted_none : (code : ℕ) {t : Tally} → t ≡ none → Counted code [] 0
 unfolding tallied
 counted_none code e = record { is = e; few = omega (arith, ap (λ (t : Tally). t.parts + t.len) e) }
 
+-- a field that is whole is counted
+pub is_counted : (code : ℕ) (t : Tally) {g : Portions} {qs : List Portion} {r : Result Tally Refusal} → r ≡ counted code t g → g ≡ whole qs → IsOk r
+is_counted code t e w = rw (e, w) refl
+
 pub counted_more : {code : ℕ} {ps qs : List Portion} {most : ℕ} {t₀ t : Tally} (start : ℕ) (bytes : List ℕ) → Counted code ps most t₀
-    → portions start (drop start bytes) ≡ whole qs → t ≡ counted code t₀ (portions start (drop start bytes))
+    → portions start (drop start bytes) ≡ whole qs → Ok t ≡ counted code t₀ (portions start (drop start bytes))
     → Counted code (ps ++ qs) (most + length bytes) t
 counted_more {code} {ps} {qs} {most} {t₀} {t} start bytes s w e =
-    let now : t ≡ tallied code t₀ qs = e ∙ ap (counted code t₀) w in
+    let same : Ok t ≡ Ok (tallied code t₀ qs) = e ∙ ap (counted code t₀) w in
+    let now : t ≡ tallied code t₀ qs = cc in
     record {
       is = now ∙ ap (λ (u : Tally). tallied code u qs) s.is ∙ sym (tallied_both code none ps qs);
       few =

@@ -5,7 +5,7 @@ use mathlib.Core.Path.{◌≡◌, sym, ap, ◌∙◌}
 use native.Mathlib.Omega.{arith}
 use mathlib.Core.List.{List, [], ◌∷◌, ◌++◌, append-nil, append_assoc}
 use lib.ListN.{length, take, drop, length-append}
-use mathlib.Core.Logic.{◌⊎◌}
+use Rattle.std.specs.Prelude.{Option, Some, None, Result, Ok}
 use Rattle.facts.specs.Over.{over}
 use Rattle.facts.proofs.Over.{over_nil, over_over, length_over}
 use Rattle.rfc.specs.Portions.{Portion, portion, next_portion, whole, portions, of_code, joined_value}
@@ -15,11 +15,10 @@ use Rattle.rfc.proofs.Sizes.{joined_none, joined_first, joined_append}
 use Rattle.rfc.proofs.OfCode.{of_none, of_first, of_other, of_both}
 use Rattle.rfc.proofs.Standing.{whole_in_place}
 use Rattle.encoder.specs.Written.{Wrote}
-use Rattle.encoder.specs.declared.Written.{Written}
 use Rattle.encoder.proofs.Answers.{put_part}
 use Rattle.portions.specs.Told.{next_of}
-use Rattle.portions.specs.declared.Next.{Next}
-use Rattle.portions.specs.declared.Next.TheVariants.{Ended, Cut, Part}
+use Rattle.portions.specs.declared.Portion as numbers
+use Rattle.refusal.specs.declared.Refusal.{Refusal}
 use Rattle.portions.proofs.Left.{FirstLeft, first_left, none_left}
 use Rattle.aggregate.specs.Gathered.{value_in, Joins}
 
@@ -80,9 +79,9 @@ module _ {bytes : List ℕ} {start code : ℕ} {join₀ : List ℕ} {to : ℕ} {
   pub join_long : length join ≡ length join₀
   join_long = ap length s.put ∙ length_over join₀ to s.done (omega (arith, s.fits, all_length))
 
-  module _ (r : Next) (told : r ≡ next_of (next_portion at (drop at bytes))) where
+  module _ (r : Result (Option numbers.Portion) Refusal) (told : r ≡ next_of (next_portion at (drop at bytes))) where
     -- where no part is left, all are joined
-    pub joined_all : (r ≡ Ended) ⊎ (r ≡ Cut)
+    pub joined_all : r ≡ Ok None
         → (join ≡ over join₀ to (value_in bytes start code)) × (end ≡ to + length (value_in bytes start code))
     joined_all t =
         let z : s.left ≡ [] = none_left bytes at s.left s.rest r told t in
@@ -90,39 +89,39 @@ module _ {bytes : List ℕ} {start code : ℕ} {join₀ : List ℕ} {to : ℕ} {
         s.all ∙ ap (λ (l : List ℕ). s.done ++ l) (ap (value_of code) z ∙ value_none code) ∙ append-nil _ in
         (s.put ∙ ap (over join₀ to) (sym e), s.ends ∙ ap (λ (l : List ℕ). to + length l) (sym e))
 
-    module _ {c n place : ℕ} (e : r ≡ Part c n place) where
-      first : FirstLeft bytes at s.left c n place
+    module _ {q : numbers.Portion} (e : r ≡ Ok (Some q)) where
+      first : FirstLeft bytes at s.left q.code q.len q.place
       first = first_left bytes at s.left s.rest r told e
 
       -- a turn goes on in the field
-      pub part_within : (at + 2 + n ≤ place) × (place ≤ length bytes)
+      pub part_within : (at + 2 + q.len ≤ q.place) × (q.place ≤ length bytes)
       part_within = (first.behind, first.within)
 
       -- a part of another code is passed
-      pub joined_other : (c ≡ code → ⊥) → Joined bytes start code join₀ to join place end
+      pub joined_other : (q.code ≡ code → ⊥) → Joined bytes start code join₀ to join q.place end
       joined_other k =
           record {
             done = s.done;
             left = first.rest;
             all =
                 s.all ∙ ap (λ (l : List ℕ). s.done ++ l)
-                (ap (value_of code) first.is ∙ value_other code (portion c first.value place) first.rest k);
+                (ap (value_of code) first.is ∙ value_other code (portion q.code first.value q.place) first.rest k);
             fits = s.fits;
             put = s.put;
             ends = s.ends;
             rest = first.left;
           }
 
-      module _ (k : c ≡ code) where
+      module _ (k : q.code ≡ code) where
         more : value_in bytes start code ≡ s.done ++ first.value ++ value_of code first.rest
         more =
             s.all
             ∙ ap (λ (l : List ℕ). s.done ++ l)
-            (ap (value_of code) first.is ∙ value_first code (portion c first.value place) first.rest k)
+            (ap (value_of code) first.is ∙ value_first code (portion q.code first.value q.place) first.rest k)
             ∙ sym (append_assoc s.done first.value _)
 
         -- the next value fits behind what is joined
-        pub part_fits : end + n ≤ length join
+        pub part_fits : end + q.len ≤ length join
         part_fits =
             omega (
               arith,
@@ -136,21 +135,21 @@ module _ {bytes : List ℕ} {start code : ℕ} {join₀ : List ℕ} {to : ℕ} {
             )
 
         -- it stands before its place, and is written into just its part of the join buffer
-        shown : take n (drop (place - n) bytes) ≡ first.value
+        shown : take q.len (drop (q.place - q.len) bytes) ≡ first.value
         shown =
             let stands = (whole_in_place bytes at (drop at bytes) [] _ (sym (append-nil _)) (s.rest ∙ ap whole first.is)).0 in
-            ap (λ (m : ℕ). take m (drop (place - m) bytes)) (sym first.long) ∙ stands.value
+            ap (λ (m : ℕ). take m (drop (q.place - m) bytes)) (sym first.long) ∙ stands.value
 
-        pub joined_more : {part : List ℕ} {q : Written}
-            → Wrote (write_slice (take (place - (place - n)) (drop (place - n) bytes)) (take (end + n - end) (drop end join)) 0)
-            (take (end + n - end) (drop end join)) part 0 q
-            → Joined bytes start code join₀ to (take end join ++ (part ++ drop (end + n - end) (drop end join))) place (end + n)
-        joined_more w =
+        pub joined_more : {part : List ℕ} {w : Result ℕ Refusal}
+            → Wrote (write_slice (take (q.place - (q.place - q.len)) (drop (q.place - q.len) bytes)) (take (end + q.len - end) (drop end join)) 0)
+            (take (end + q.len - end) (drop end join)) part 0 w
+            → Joined bytes start code join₀ to (take end join ++ (part ++ drop (end + q.len - end) (drop end join))) q.place (end + q.len)
+        joined_more h =
             let f = first in
-            let a : place - (place - n) ≡ n = omega (arith, f.behind) in
-            let b : end + n - end ≡ n = omega arith in
+            let a : q.place - (q.place - q.len) ≡ q.len = omega (arith, f.behind) in
+            let b : end + q.len - end ≡ q.len = omega arith in
             let p : List ℕ = f.value in
-            let put = put_part p join end (end + n - end) (f.long ∙ sym b) (omega (arith, part_fits)) (rw (a, shown) at w) in
+            let put = put_part p join end (end + q.len - end) (f.long ∙ sym b) (omega (arith, part_fits)) (rw (a, shown) at h) in
             record {
               done = s.done ++ p;
               left = f.rest;

@@ -9,3 +9,4 @@ pub mod Finding
 pub mod UniqueFinding
 pub mod Overloaded
 pub mod Unique
+pub mod Overloading

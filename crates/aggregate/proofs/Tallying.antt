@@ -2,13 +2,16 @@
 -- Assumes nothing.
 use Prim.Native.Nat.{ℕ, ◌+◌}
 use mathlib.Core.Path.{◌≡◌, refl, sym, ap, ◌∙◌}
-use mathlib.Core.Bool.{Bool, true, false, cond}
-use mathlib.Core.List.{List, [], ◌∷◌}
+use mathlib.Core.Bool.{true, false, cond}
+use mathlib.Core.List.{List}
 use lib.ListN.{length, drop}
 use lib.Dec.{eqb}
+use Rattle.std.specs.Prelude.{Ok, Err}
 use borrow.Author.Tests.{eq-eqb, ne_eqb}
-use Rattle.rfc.specs.Portions.{portion, Portions, cut_field, whole, ahead, portions, is_cut}
-use Rattle.rfc.proofs.Portions.{ahead_cut, ahead_whole, cut-field, cut_whole}
+use Rattle.rfc.specs.Portions.{portion, Portions, cut_field, whole, ahead, portions, is_cut, parts_in}
+use Rattle.rfc.proofs.Portions.{ahead_cut, ahead_whole, cut-field, cut_whole, parts_whole}
+use Rattle.refusal.specs.declared.Refusal.{Refusal}
+use Rattle.refusal.specs.declared.Refusal.TheVariants.{FieldCut}
 use Rattle.portions.proofs.Left.{FirstPart}
 use Rattle.aggregate.specs.Tallies.{tally, tallied, counted}
 use Rattle.aggregate.specs.declared.tally.Tally.{Tally}
@@ -33,23 +36,11 @@ module _ {bytes : List ℕ} {at c n place : ℕ} (code : ℕ) (t : Tally) (f : F
   pub skips : (c ≡ code → ⊥) → Turns t
   skips e = rw (ne_eqb c code e) at by_code
 
--- whether a field before was cut is not asked
-pub cut_aside : (code : ℕ) (t : Tally) (f : Portions) → counted code t f ≡ counted code (tally t.parts t.len t.place) f
-unfolding tallied
-cut_aside code t cut_field = refl
-cut_aside code t (whole []) = refl
-cut_aside code t (whole (p ∷ ps)) = go (eqb p.code code) (cut_aside code t (whole ps))
-  where
-    go : (b : Bool) → tallied code t ps ≡ tallied code (tally t.parts t.len t.place) ps
-        → tallied code (cond b (tally (t.parts + 1) (t.len + length p.value) p.place) t) ps
-        ≡ tallied code (cond b (tally (t.parts + 1) (t.len + length p.value) p.place) (tally t.parts t.len t.place)) ps
-    go true r = refl
-    go false r = r
+-- what is counted tells whether the field was cut
+pub err_cut : (code : ℕ) (t : Tally) (f : Portions) {e : Refusal} → counted code t f ≡ Err e → (is_cut f ≡ true) × (e ≡ FieldCut)
+err_cut code t cut_field h = (cut-field, cc)
+err_cut code t (whole ps) h = cc
 
--- a tally tells whether the field was cut
-pub cut_is : (code : ℕ) (t : Tally) (f : Portions) → (counted code t f).cut ≡ is_cut f
-unfolding tallied
-cut_is code t cut_field = sym cut-field
-cut_is code t (whole []) = sym (cut_whole [])
-cut_is code t (whole (p ∷ ps)) =
-    cut_is code (cond (eqb p.code code) (tally (t.parts + 1) (t.len + length p.value) p.place) t) (whole ps) ∙ cut_whole ps ∙ sym (cut_whole (p ∷ ps))
+pub ok_whole : (code : ℕ) (t : Tally) (f : Portions) {u : Tally} → counted code t f ≡ Ok u → (is_cut f ≡ false) × (u ≡ tallied code t (parts_in f))
+ok_whole code t cut_field h = cc
+ok_whole code t (whole ps) {u} h = let is : tallied code t ps ≡ u = cc in (cut_whole ps, sym is ∙ ap (tallied code t) (sym (parts_whole refl)))

@@ -1,23 +1,26 @@
 // Which fields of a message hold options: the options field, and those that its option 52 names.
-ghost use Rattle.std.specs.Prelude.{◌≡◌, cond, ◌||◌, eqb};
-ghost use Rattle.rfc.specs.Header.{area, bytes_of, file_field, sname_field};
-ghost use Rattle.rfc.specs.Portions.{is_cut, parts_in};
-ghost use Rattle.rfc.specs.Aggregate.{fields_of, overload_code, options_read, overload_of, names_file, names_sname, read_named};
-ghost use Rattle.header.specs.Header.{says, Whole};
-ghost use Rattle.aggregate.specs.Spanned.{options_start, spans_of, overload_byte};
+ghost use Rattle.std.specs.Prelude.{◌≡◌, ◌≤◌, cond, ◌||◌, eqb, length, MatchResult};
+ghost use Rattle.rfc.specs.Numbers.{least_message};
+ghost use Rattle.rfc.specs.Header.{area};
+ghost use Rattle.rfc.specs.Portions.{parts_in};
+ghost use Rattle.rfc.specs.Aggregate.{fields_of, overload_code, options_read, overload_of};
+ghost use Rattle.refusal.specs.Told.{told};
+ghost use Rattle.header.specs.Header.{Stopped};
+ghost use Rattle.aggregate.specs.Spanned.{Whole, options_start, spans_of, overload_said, named_said};
 ghost use Rattle.aggregate.specs.Tallies.{tallied, none};
 
 use crate::tally;
 use crate::tally::Tally;
-use header::{Area, Header, Number};
+use header::Header;
 use limits::{LEAST_MESSAGE, MOST_BYTES};
+use refusal::Refusal;
 
 // The code of "option overload" (RFC 2132, section 9.3).
 const OVERLOAD: u8 = 52;
 
 // Where the fields stand: the options from `options` to the message's end, file up to `file`, sname up to `sname`. One that is not read is
 // empty.
-#[derive(Drop)]
+#[derive(Clone, Copy, Debug, PartialEq, Eq)]
 pub struct Spans {
     pub options: usize,
     pub file: usize,
@@ -25,66 +28,60 @@ pub struct Spans {
 }
 
 // What option 52 of the options field says: 1 file, 2 sname, 3 both; 0 where there is none.
-pub fn overload(message: &[u8]) -> Number
-    ensures { says result ≡ overload_of message.now }
+pub fn overload(message: &[u8]) -> Result<usize, Refusal>
+    ensures { told result ≡ overload_of message.now }
+{
+    check_read(message)?;
+    let counted = tally::count(message, options_start(message), OVERLOAD, tally::none())?;
+    let named = overload_byte(message, counted)?;
+    check_named(message, named)?;
+    Ok(named)
+}
+
+// Whether the message is read at all.
+#[tactic(auto, using(header::proofs::Readers::long_stops, header::proofs::Readers::short_stops))]
+pub(crate) fn check_read(message: &[u8]) -> Result<(), Refusal>
+    ensures { MatchResult result (λ _. Whole message.now) (λ refusal. Stopped message.now refusal) }
 {
     if message.len() > MOST_BYTES {
-        return Number::Refused(2);
+        return Err(Refusal::TooLong);
     }
     if message.len() < LEAST_MESSAGE {
-        return Number::Refused(1);
+        return Err(Refusal::MessageTooShort);
     }
-    let told = tally::count(message, options_start(message), OVERLOAD, tally::none());
-    if told.cut {
-        return Number::Refused(15);
-    }
-    let named = overload_byte(message, told);
-    if named > 3 {
-        return Number::Refused(16);
-    }
-    if named_cut(message, named) {
-        return Number::Refused(15);
-    }
-    Number::Is(named)
+    Ok(())
 }
 
-// What one byte says that was counted as option 52; 4 where it is unclear.
-fn overload_byte(message: &[u8], told: Tally) -> usize
-    requires { told ≡ tallied overload_code none (parts_in (options_read (fields_of message.now))) }
-    ensures { result ≡ overload_byte (fields_of message.now) }
+// What one byte says that was counted as option 52.
+#[tactic(auto, using(crate::proofs::Overloaded::none_says, crate::proofs::Overloaded::often_says, crate::proofs::Overloaded::long_says, crate::proofs::Overloaded::byte_says, crate::proofs::Overloaded::zero_says, crate::proofs::Overloaded::above_says))]
+fn overload_byte(message: &[u8], counted: Tally) -> Result<usize, Refusal>
+    requires { counted ≡ tallied overload_code none (parts_in (options_read (fields_of message.now))) }
+    ensures { result ≡ overload_said (fields_of message.now) }
 {
-    if told.parts == 0 {
-        return 0;
+    if counted.parts == 0 {
+        return Ok(0);
     }
-    if told.parts > 1 {
-        return 4;
+    if counted.parts > 1 {
+        return Err(Refusal::UnclearOverload);
     }
-    if told.len != 1 {
-        return 4;
+    if counted.len != 1 {
+        return Err(Refusal::UnclearOverload);
     }
-    let named = message[told.place - 1] as usize;
-    if named == 0 {
-        return 4;
+    match message[counted.place - 1] {
+        named @ 1..=3 => Ok(named as usize),
+        _ => Err(Refusal::UnclearOverload),
     }
-    if named > 3 {
-        return 4;
-    }
-    named
 }
 
-// Whether a field is cut that is named.
-fn named_cut(message: &[u8], named: usize) -> bool
+// Whether no field is cut that is named.
+fn check_named(message: &[u8], named: usize) -> Result<(), Refusal>
     requires { Whole message.now }
-    ensures { result ≡ (is_cut (read_named (names_file named) file_field.start (bytes_of file_field message.now))
-        || is_cut (read_named (names_sname named) sname_field.start (bytes_of sname_field message.now))) }
+    ensures { result ≡ named_said message.now named }
 {
     let at = spans_of(message, named);
-    let file = tally::count(&message[..at.file], Header::FILE, 0, tally::none());
-    if file.cut {
-        return true;
-    }
-    let sname = tally::count(&message[..at.sname], Header::SNAME, 0, tally::none());
-    sname.cut
+    tally::count(&message[..at.file], Header::FILE, 0, tally::none())?;
+    tally::count(&message[..at.sname], Header::SNAME, 0, tally::none())?;
+    Ok(())
 }
 
 // The fields of a message whose option 52 says `named`.
@@ -103,9 +100,8 @@ fn options_start(message: &[u8]) -> usize
     ensures { result ≡ options_start message.now (area message.now) }
 {
     match Header::area(message) {
-        Area::At { start, len: _ } => start,
-        Area::WrongMagic => message.len(),
-        Area::Refused(_) => message.len(),
+        Ok(Some(area)) => area.start,
+        _ => message.len(),
     }
 }
 

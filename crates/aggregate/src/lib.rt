@@ -4,48 +4,34 @@
 
 pub mod fields;
 mod gather;
+mod opened;
 mod seen;
 mod tally;
 
 ghost use Rattle.aggregate.specs.Gathered.{Finds, Enters};
 
 use borrowed::answer::Step;
-use header::Number;
-use limits::{LEAST_MESSAGE, MOST_BYTES};
+use opened::Opened;
+use refusal::Refusal;
 
 // What `code` is in the message: an option, joined in `join` where it has two parts or more, or out, where it has none.
-pub fn find(message: &[u8], code: u8, join: &mut [u8]) -> Step
+pub fn find(message: &[u8], code: u8, join: &mut [u8]) -> Result<Step, Refusal>
     ensures { Finds message.now code join.old join.new result }
 {
-    if message.len() > MOST_BYTES {
-        return Step::Refused(2);
-    }
-    if message.len() < LEAST_MESSAGE {
-        return Step::Refused(1);
-    }
+    fields::check_read(message)?;
     if code == 0 {
-        return Step::Refused(6);
+        return Err(Refusal::NoSuchCode);
     }
     if code == 255 {
-        return Step::Refused(6);
+        return Err(Refusal::NoSuchCode);
     }
-    match fields::overload(message) {
-        Number::Refused(number) => Step::Refused(number),
-        Number::Is(named) => gather::option(message, named, code, join),
-    }
+    Opened::of(message)?.option(code, join)
 }
 
 // The option at an index, in the order in which codes first appear; out, where there are not so many.
-pub fn entry(message: &[u8], index: usize, join: &mut [u8]) -> Step
+pub fn entry(message: &[u8], index: usize, join: &mut [u8]) -> Result<Step, Refusal>
     ensures { Enters message.now index join.old join.new result }
 {
-    match fields::overload(message) {
-        Number::Refused(number) => Step::Refused(number),
-        Number::Is(named) => gather::option(
-            message,
-            named,
-            seen::code_at(message, named, index),
-            join,
-        ),
-    }
+    let opened = Opened::of(message)?;
+    opened.option(opened.code_at(index), join)
 }

@@ -28,7 +28,7 @@ use Rattle.borrowed.specs.declared.answer.Step.TheVariants.{Stopped, Found}
 use Rattle.borrowed.specs.declared.parts.Run.{Run}
 use Rattle.refusal.proofs.Told.{says_then}
 use Rattle.borrowed.proofs.Refusals.{says_is, says_keeps, says_stays}
-use Rattle.borrowed.proofs.Runs.{whole_is, cut_is, run_ends}
+use Rattle.borrowed.proofs.Runs.{whole_is, cut_is}
 use Rattle.borrowed.proofs.Shown.{part_there, shown_one, shown_many}
 
 -- what the walk finds at a place is what a call finds there, by its numbers
@@ -60,9 +60,6 @@ module _ {area : List ℕ} {at : ℕ} (s : Starts area at) where
   starts_cut e = finds (joined_cut _ v _ more (cut_is more e))
 
   module _ (w : Run) (e : Some w ≡ size_of more) where
-    pub starts_ends : behind area at + (2 * w.parts + w.len) ≤ length area
-    starts_ends = run_ends area (behind area at) code w s.within e
-
     -- an option of all the parts
     abbrev pub whole : found.Found
     whole =

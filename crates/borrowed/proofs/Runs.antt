@@ -1,7 +1,7 @@
 -- Runs of parts that are known by their numbers, as the code knows them.
 -- Assumes nothing.
 use mathlib.Core.Path.{◌≡◌, refl, sym, ap, ◌∙◌}
-use Prim.Native.Nat.{ℕ, suc, ◌+◌, ◌*◌, ◌≤◌}
+use Prim.Native.Nat.{ℕ, suc, ◌+◌, ◌≤◌}
 use native.Mathlib.Omega.{arith}
 use mathlib.Core.List.{List, [], ◌++◌}
 use lib.ListN.{length, take, drop, get_or, length-drop, length-append}
@@ -25,24 +25,10 @@ pub cut_is : (r : rfc.Run) → None ≡ size_of r → r ≡ cut
 cut_is cut e = refl
 cut_is (run n vs) e = cc
 
--- the further parts lie in the area
-pub run_ends : (area : List ℕ) (at code : ℕ) (w : Run) → at ≤ length area → Some w ≡ size_of (further code (drop at area))
-    → at + (2 * w.parts + w.len) ≤ length area
-run_ends area at code w h e =
-    let is = whole_is w (further code (drop at area)) e in
-    omega (arith, is.1, run_within code (drop at area) w.parts _ is.0, length-drop at area)
-
 -- so many parts, with so many bytes, in front of a run
 abbrev pub grow : ℕ → ℕ → Option Run → Option Run
 grow parts len None = None
 grow parts len (Some w) = Some (record { parts = parts + w.parts; len = len + w.len })
-
-pub grow_none : (r : Option Run) → r ≡ grow 0 0 r
-grow_none None = refl
-grow_none (Some w) =
-    let a : w.parts ≡ 0 + w.parts = omega arith in
-    let b : w.len ≡ 0 + w.len = omega arith in
-    λ i. Some (record { parts = a i; len = b i })
 
 -- one part more
 grow_more : (parts len n : ℕ) (v : List ℕ) (r : rfc.Run) → length v ≡ n

@@ -9,41 +9,52 @@ use Rattle.facts.proofs.Over.{from_over}
 use Rattle.rfc.specs.Numbers.{Answer, given, refused, most_bytes, most_value}
 use Rattle.rfc.specs.Walk as walk
 use Rattle.rfc.specs.Walk.{step, join_after}
-use Rattle.rfc.specs.Writing.{close}
+use Rattle.rfc.specs.Writing.{Write, answer_to, close}
+use Rattle.rfc.proofs.Writing.{never_needs}
 use Rattle.rfc.specs.Lists.{Opt, Valid, encode_all, Made, finished, write_all}
 use Rattle.rfc.proofs.Lists.{all_goes_on, all_ends_at, all_closes, all_not_closed, writes_all, at-end, First, at_option}
 use Rattle.rfc.proofs.Walk.{length_joined}
+use Rattle.std.specs.Prelude.{Result, Ok, Err}
+use Rattle.refusal.specs.declared.Refusal.{Refusal}
+use Rattle.refusal.specs.Told.{says}
+use Rattle.refusal.proofs.Told.{says_as, says_given}
 use Rattle.encoder.specs.Written.{Wrote}
-use Rattle.encoder.specs.declared.Written.{Written}
-use Rattle.encoder.specs.declared.Written.TheVariants as written
 use Rattle.borrowed.specs.Walked.{stop_of, Stepped}
-use Rattle.borrowed.specs.declared.answer.Step.TheVariants.{Stopped, Found, Refused, Needs}
+use Rattle.borrowed.specs.declared.answer.Found as option
+use Rattle.borrowed.specs.declared.answer.Step.TheVariants.{Stopped, Found}
 use Rattle.borrowed.specs.declared.answer.Stop.{Stop}
 use Rattle.borrowed.specs.declared.answer.Stop.TheVariants.{Out, End, CutLength, CutValue, CutContinuation}
 use Rattle.calls.proofs.Made.{made_same}
 use Rattle.calls.specs.Calls.{WritesAll, closes, goes_on, ends, StepsTo, none, one, found_by, ListsBack, CallsRoundTrip}
 
 -- what the last call of a run of writes says of the run
-abbrev made : Written → List ℕ → Answer Made
-made (written.To to) room = finished room to
-made (written.Refused k) room = refused k
+abbrev made : Result ℕ Refusal → List ℕ → Answer Made
+made (Ok to) room = finished room to
+made (Err e) room = says e
+
+-- where a write's refusal ends a run, the run says what the write says
+ends_as : (w : Write) (room : List ℕ) (place : ℕ) (run : Answer Made)
+    → ((k : ℕ) → answer_to w room place ≡ refused k → run ≡ refused k) → (e : Refusal) → answer_to w room place ≡ says e → run ≡ says e
+ends_as w room place run ended =
+    says_as (λ (a : Answer ℕ) (b : Answer Made) k len. answer_to w room place ≡ a → run ≡ b)
+    ended (λ len h. absurd (never_needs w room place len h))
 
 -- the calls do what `write_all` says
-closes_as : (room room' : List ℕ) (place : ℕ) (r : Written) → Wrote (close room place) room room' place r
+closes_as : (room room' : List ℕ) (place : ℕ) (r : Result ℕ Refusal) → Wrote (close room place) room room' place r
     → write_all [] room place ≡ made r room'
-closes_as room room' place (written.To to) w = all_closes room place (sym w.told) (sym w.left)
-closes_as room room' place (written.Refused k) w = all_not_closed room place (sym w.told)
+closes_as room room' place (Ok to) w = all_closes room place (sym w.tells) (sym w.left)
+closes_as room room' place (Err e) w = ends_as _ room place _ (λ k h. all_not_closed room place h) e (sym w.tells)
 
-does_all : {os : List Opt} {room room' : List ℕ} {place : ℕ} {r : Written} → WritesAll os room place room' r
+does_all : {os : List Opt} {room room' : List ℕ} {place : ℕ} {r : Result ℕ Refusal} → WritesAll os room place room' r
     → write_all os room place ≡ made r room'
 does_all (closes w) = closes_as _ _ _ _ w
-does_all (goes_on w more) = all_goes_on _ _ _ _ (sym w.told) (sym w.left) ∙ does_all more
-does_all (ends w) = all_ends_at _ _ _ _ (sym w.told)
+does_all (goes_on w more) = all_goes_on _ _ _ _ (sym w.tells) (sym w.left) ∙ does_all more
+does_all (ends w) = ends_as _ _ _ _ (λ k h. all_ends_at _ _ _ _ h) _ (sym w.tells)
 
 -- so a run that makes something ends with its place, and leaves its room
-made_is : (r : Written) (room room' : List ℕ) (to : ℕ) → made r room ≡ finished room' to → (r ≡ written.To to) × (room ≡ room')
-made_is (written.To at) room room' to e = let m = made_same e in (ap written.To m.1, m.0)
-made_is (written.Refused k) room room' to e = absurd (let z : ◌≡◌ {A = ℕ} 0 1 = cc in omega arith)
+made_is : (r : Result ℕ Refusal) (room room' : List ℕ) (to : ℕ) → made r room ≡ finished room' to → (r ≡ Ok to) × (room ≡ room')
+made_is (Ok at) room room' to e = let m = made_same e in (ap Ok m.1, m.0)
+made_is (Err r) room room' to e = absurd (says_given _ r e)
 
 -- what a call found, by its code and its value
 module _ {c d n m at to : ℕ} {v w : List ℕ} (e : ◌≡◌ {A = Answer walk.Found} (given (walk.option c v n at)) (given (walk.option d w m to))) where
@@ -72,15 +83,15 @@ module _ (area rest : List ℕ) (short : length area ≤ most_bytes) where
 
   -- a call that finds an option there finds the list's first
   module _ {place : ℕ} {join join₁ : List ℕ} (within : place ≤ length area) (joins : most_value ≤ length join) where
-    module _ (o : Opt) (os : List Opt) {code parts len to : ℕ} (v : Valid (o ∷ os)) (here : drop place area ≡ encode_all (o ∷ os) ++ rest)
-        (s : Stepped area place join join₁ (Found code parts len to)) where
+    module _ (o : Opt) (os : List Opt) {f : option.Found} (v : Valid (o ∷ os)) (here : drop place area ≡ encode_all (o ∷ os) ++ rest)
+        (s : Stepped area place join join₁ (Ok (Found f))) where
       first : First area rest (length join) short joins o os place
       first = at_option area rest (length join) short joins o os place v within here
 
-      the_option : found_by code parts len to area join₁ ≡ o
+      the_option : found_by f area join₁ ≡ o
       the_option = let e = s.told ∙ first.finds in λ i. record { code = same_code e i; value = same_value e i }
 
-      the_place : to ≡ first.to
+      the_place : f.place ≡ first.to
       the_place = let e = s.told ∙ first.finds in cc
 
       joins_on : most_value ≤ length join₁
@@ -151,17 +162,17 @@ module _ (options : List Opt) (rest area join : List ℕ) (valid : Valid options
             goes o os (state.split ∙ ap (λ (l : List Opt). sofar ++ l) e) f.parts f.to f.finds
 
     module _ {join₂ : List ℕ} where
-      finds_next : {code parts len to : ℕ} → Stepped area at join₁ join₂ (Found code parts len to)
-          → (os : List Opt) × (options ≡ sofar ++ found_by code parts len to area join₂ ∷ os)
-      finds_next {code} {parts} {len} {to} s = go next
+      finds_next : {f : option.Found} → Stepped area at join₁ join₂ (Ok (Found f))
+          → (os : List Opt) × (options ≡ sofar ++ found_by f area join₂ ∷ os)
+      finds_next {f} s = go next
         where
-          go : Next → (os : List Opt) × (options ≡ sofar ++ found_by code parts len to area join₂ ∷ os)
+          go : Next → (os : List Opt) × (options ≡ sofar ++ found_by f area join₂ ∷ os)
           go (ended all e) = option_stop (s.told ∙ e)
           go (goes o os split n p e) =
-              let f = s.told ∙ e in
-              (os, split ∙ (λ i. sofar ++ record { code = sym (same_code f) i; value = sym (same_value f) i } ∷ os))
+              let is = s.told ∙ e in
+              (os, split ∙ (λ i. sofar ++ record { code = sym (same_code is) i; value = sym (same_value is) i } ∷ os))
 
-      stops_last : {s : Stop} {to : ℕ} → Stepped area at join₁ join₂ (Stopped s to)
+      stops_last : {s : Stop} {to : ℕ} → Stepped area at join₁ join₂ (Ok (Stopped s to))
           → (sofar ≡ options) × (s ≡ End) × (to ≡ length (encode_all options))
       stops_last {s} {to} r = go next
         where
@@ -170,19 +181,12 @@ module _ (options : List Opt) (rest area join : List ℕ) (valid : Valid options
               let f = r.told ∙ e in let is : stop_of s ≡ walk.end = cc in (all, is_end s is, cc)
           go (goes o os split n p e) = option_stop (sym (r.told ∙ e))
 
-      never_refused : {k : ℕ} → Stepped area at join₁ join₂ (Refused k) → ⊥
-      never_refused {k} r = go next
+      never_refused : {r : Refusal} → Stepped area at join₁ join₂ (Err r) → ⊥
+      never_refused {r} s = go next
         where
           go : Next → ⊥
-          go (ended all e) = let f = r.told ∙ e in let z : ◌≡◌ {A = ℕ} 0 1 = cc in omega arith
-          go (goes o os split n p e) = let f = r.told ∙ e in let z : ◌≡◌ {A = ℕ} 0 1 = cc in omega arith
-
-      never_needs : {n : ℕ} → Stepped area at join₁ join₂ (Needs n) → ⊥
-      never_needs {n} r = go next
-        where
-          go : Next → ⊥
-          go (ended all e) = let f = r.told ∙ e in let z : ◌≡◌ {A = ℕ} 0 1 = cc in omega arith
-          go (goes o os split m p e) = let f = r.told ∙ e in let z : ◌≡◌ {A = ℕ} 0 1 = cc in omega arith
+          go (ended all e) = says_given _ r (s.told ∙ e)
+          go (goes o os split n p e) = says_given _ r (s.told ∙ e)
 
   lists_back : ListsBack options (length (encode_all options)) area join
   lists_back =
@@ -190,7 +194,6 @@ module _ (options : List Opt) (rest area join : List ℕ) (valid : Valid options
         finds = λ steps s. finds_next steps s;
         stops = λ steps s. stops_last steps s;
         refuses = λ steps s. never_refused steps s;
-        needs = λ steps s. never_needs steps s;
       }
 
 pub calls_round_trip : CallsRoundTrip

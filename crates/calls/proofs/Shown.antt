@@ -37,7 +37,7 @@ of_rows_written = (
   refl,
   refl,
   refl,
-  record { told = refl; left = refl },
+  record { tells = refl; left = refl },
   refl,
   record { told = refl; left = refl },
 )

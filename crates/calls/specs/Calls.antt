@@ -3,17 +3,17 @@
 -- `options`, `step` of `borrowed`. Then all options in one call, over the boundary: `sindovaleph_write_list`, `sindovaleph_close`,
 -- `sindovaleph_list`.
 -- Assumes nothing.
-use Rattle.std.specs.Prelude.{ℕ, ◌+◌, ◌/◌, ◌≤◌, ◌<◌, ◌≡◌, List, [], ◌∷◌, ◌++◌, length, take, drop}
+use Rattle.std.specs.Prelude.{ℕ, ◌+◌, ◌/◌, ◌≤◌, ◌<◌, ◌≡◌, List, [], ◌∷◌, ◌++◌, length, take, drop, Result, Ok, Err}
 use Rattle.facts.specs.Over.{over}
 use Rattle.rfc.specs.Numbers.{given, most_bytes, most_value}
 use Rattle.rfc.specs.Walk as walk
 use Rattle.rfc.specs.Writing.{write_bytes, close}
 use Rattle.rfc.specs.Lists.{Opt, Valid, encode_all, listing}
+use Rattle.refusal.specs.declared.Refusal.{Refusal}
 use Rattle.encoder.specs.Written.{Wrote}
-use Rattle.encoder.specs.declared.Written.{Written}
-use Rattle.encoder.specs.declared.Written.TheVariants as written
 use Rattle.borrowed.specs.Walked.{Stepped, shown}
-use Rattle.borrowed.specs.declared.answer.Step.TheVariants.{Stopped, Found, Refused, Needs}
+use Rattle.borrowed.specs.declared.answer.Found as option
+use Rattle.borrowed.specs.declared.answer.Step.TheVariants.{Stopped, Found}
 use Rattle.borrowed.specs.declared.answer.Stop.{Stop}
 use Rattle.borrowed.specs.declared.answer.Stop.TheVariants.{End}
 use Rattle.crossing.specs.Carried as boundary
@@ -26,54 +26,50 @@ use Rattle.sindovaleph_rows.specs.declared.listing.Listed.{Listed}
 -- One option a call.
 -- Calls of `write_bytes`, one an option, each at the place that the one before answered and in the room that it left; then a call of
 -- `close`. The first refusal ends it. From a room and a place they come to a room' and to the last answer
-pub data WritesAll : List Opt → List ℕ → ℕ → List ℕ → Written → Type 0 where
-  closes : {room room' : List ℕ} {place : ℕ} {r : Written}
+pub data WritesAll : List Opt → List ℕ → ℕ → List ℕ → Result ℕ Refusal → Type 0 where
+  closes : {room room' : List ℕ} {place : ℕ} {r : Result ℕ Refusal}
       → Wrote (close room place) room room' place r → WritesAll [] room place room' r
-  goes_on : {o : Opt} {os : List Opt} {room room₁ room' : List ℕ} {place to : ℕ} {r : Written}
-      → Wrote (write_bytes o.code o.value room place) room room₁ place (written.To to)
+  goes_on : {o : Opt} {os : List Opt} {room room₁ room' : List ℕ} {place to : ℕ} {r : Result ℕ Refusal}
+      → Wrote (write_bytes o.code o.value room place) room room₁ place (Ok to)
       → WritesAll os room₁ to room' r
       → WritesAll (o ∷ os) room place room' r
-  ends : {o : Opt} {os : List Opt} {room room' : List ℕ} {place k : ℕ}
-      → Wrote (write_bytes o.code o.value room place) room room' place (written.Refused k)
-      → WritesAll (o ∷ os) room place room' (written.Refused k)
+  ends : {o : Opt} {os : List Opt} {room room' : List ℕ} {place : ℕ} {e : Refusal}
+      → Wrote (write_bytes o.code o.value room place) room room' place (Err e)
+      → WritesAll (o ∷ os) room place room' (Err e)
 
 -- an option that a call found, with the value that is shown then
-abbrev pub found_by : ℕ → ℕ → ℕ → ℕ → List ℕ → List ℕ → Opt
-found_by code parts len place area join = record { code = code; value = shown parts len place area join }
+abbrev pub found_by : option.Found → List ℕ → List ℕ → Opt
+found_by f area join = record { code = f.code; value = shown f.parts f.len f.place area join }
 
 -- Calls of `step`, each at the place that the one before answered and with the join buffer that it left, as long as they find options:
 -- these options, and the place and the join buffer that the calls have come to
 pub data StepsTo (area : List ℕ) : ℕ → List ℕ → List Opt → ℕ → List ℕ → Type 0 where
   none : {place : ℕ} {join : List ℕ} → StepsTo area place join [] place join
-  one : {place code parts len to at : ℕ} {join join₁ join' : List ℕ} {os : List Opt}
-      → Stepped area place join join₁ (Found code parts len to)
-      → StepsTo area to join₁ os at join'
-      → StepsTo area place join (found_by code parts len to area join₁ ∷ os) at join'
+  one : {place at : ℕ} {f : option.Found} {join join₁ join' : List ℕ} {os : List Opt}
+      → Stepped area place join join₁ (Ok (Found f))
+      → StepsTo area f.place join₁ os at join'
+      → StepsTo area place join (found_by f area join₁ ∷ os) at join'
 
 -- The calls list exactly these options and stop at the End that ends at a place. Whatever they found so far, and whatever the next one
 -- answers: an option is the list's next one; a stop is at that End, and all options were found before; nothing is refused
 pub record ListsBack (options : List Opt) (end : ℕ) (area join : List ℕ) : Type 0 where
-  pub finds : {sofar : List Opt} {at code parts len to : ℕ} {join₁ join₂ : List ℕ}
+  pub finds : {sofar : List Opt} {at : ℕ} {f : option.Found} {join₁ join₂ : List ℕ}
       → StepsTo area 0 join sofar at join₁
-      → Stepped area at join₁ join₂ (Found code parts len to)
-      → (rest : List Opt) × (options ≡ sofar ++ found_by code parts len to area join₂ ∷ rest)
+      → Stepped area at join₁ join₂ (Ok (Found f))
+      → (rest : List Opt) × (options ≡ sofar ++ found_by f area join₂ ∷ rest)
   pub stops : {sofar : List Opt} {at to : ℕ} {s : Stop} {join₁ join₂ : List ℕ}
       → StepsTo area 0 join sofar at join₁
-      → Stepped area at join₁ join₂ (Stopped s to)
+      → Stepped area at join₁ join₂ (Ok (Stopped s to))
       → (sofar ≡ options) × (s ≡ End) × (to ≡ end)
-  pub refuses : {sofar : List Opt} {at k : ℕ} {join₁ join₂ : List ℕ}
+  pub refuses : {sofar : List Opt} {at : ℕ} {e : Refusal} {join₁ join₂ : List ℕ}
       → StepsTo area 0 join sofar at join₁
-      → Stepped area at join₁ join₂ (Refused k)
-      → ⊥
-  pub needs : {sofar : List Opt} {at n : ℕ} {join₁ join₂ : List ℕ}
-      → StepsTo area 0 join sofar at join₁
-      → Stepped area at join₁ join₂ (Needs n)
+      → Stepped area at join₁ join₂ (Err e)
       → ⊥
 
 -- "Take any list of options ..": whatever the writing calls answered and left, and then the walking ones
-pub record BackByCalls (options : List Opt) (room room' behind join : List ℕ) (place : ℕ) (r : Written) : Type 0 where
+pub record BackByCalls (options : List Opt) (room room' behind join : List ℕ) (place : ℕ) (r : Result ℕ Refusal) : Type 0 where
   -- the last call answers the place behind the list's bytes; they stand at the place, and nothing else changed
-  pub told : r ≡ written.To (place + length (encode_all options))
+  pub told : r ≡ Ok (place + length (encode_all options))
   pub left : room' ≡ over room place (encode_all options)
   -- those bytes are listed, whatever stands behind them
   pub walked : ListsBack options (length (encode_all options)) (encode_all options ++ behind) join
@@ -82,7 +78,7 @@ pub record BackByCalls (options : List Opt) (room room' behind join : List ℕ) 
 
 abbrev pub CallsRoundTrip : Type 0
 CallsRoundTrip =
-    (options : List Opt) (room room' behind join : List ℕ) (place : ℕ) (r : Written)
+    (options : List Opt) (room room' behind join : List ℕ) (place : ℕ) (r : Result ℕ Refusal)
     → Valid options
     → length room ≤ most_bytes
     → place + length (encode_all options) ≤ length room

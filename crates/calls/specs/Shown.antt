@@ -1,7 +1,7 @@
 -- The worked examples of docs/READING.md that speak of rows and of the listings: a statement for each of its tables there. Each example
 -- is computed from the definitions. `tools/reading` holds the page against this file.
 -- Assumes nothing.
-use Rattle.std.specs.Prelude.{ℕ, ◌≡◌, true, false, List, [], ◌∷◌, ◌++◌, replicate}
+use Rattle.std.specs.Prelude.{ℕ, ◌≡◌, true, false, List, [], ◌∷◌, ◌++◌, replicate, Ok, Err}
 use Rattle.rfc.specs.Numbers.{given, refused, needs}
 use Rattle.rfc.specs.Header.{area, magic}
 use Rattle.rfc.specs.Walk.{end, option, out, stop}
@@ -9,7 +9,6 @@ use Rattle.rfc.specs.Values.{plain, read, strict}
 use Rattle.rfc.specs.Aggregate.{entries, overload_of}
 use Rattle.crossing.specs.Carried.{value_of}
 use Rattle.options.specs.Rows.{WroteRows, all, answer_of, not_code, outside, room_of, rows_from, stuck, write_row, write_rows}
-use Rattle.options.specs.declared.rows.RowsWritten.TheVariants.{To, Refused}
 use Rattle.sindovaleph_rows.specs.Writing.{WritesList, written_rows}
 use Rattle.sindovaleph_rows.specs.Listing.{Last, Listing, Lists, at_stop, found, full, in_front, last_number, list, list_in, listed_of, read_unjoined, row_of, rows_after, step_row, typed, value_row, width}
 use Rattle.sindovaleph_entries.specs.Rows.{ListsEntries, entries_after, entries_of, entry_row, entry_rows}
@@ -106,10 +105,10 @@ OfRowsWritten =
     × (rows_from 0 (12 ∷ 0 ∷ 1 ∷ 7 ∷ []) (65 ∷ []) (0 ∷ 0 ∷ 0 ∷ []) 0 ≡ all 1 (12 ∷ 1 ∷ 65 ∷ []) 3)
     × (rows_from 0 (12 ∷ 0 ∷ 1 ∷ 0 ∷ 0 ∷ 1 ∷ []) (65 ∷ []) (0 ∷ 0 ∷ 0 ∷ []) 0 ≡ stuck 1 6)
     × (write_rows (0 ∷ 0 ∷ 0 ∷ []) [] (0 ∷ []) 2 ≡ stuck 0 4)
-    × (answer_of (all 1 (12 ∷ 1 ∷ 65 ∷ []) 3) ≡ To 1 3)
-    × (answer_of (stuck 1 6) ≡ Refused 1 6)
+    × (answer_of (all 1 (12 ∷ 1 ∷ 65 ∷ []) 3) ≡ Ok (1, 3))
+    × (answer_of (stuck 1 6) ≡ Err (1, refused 6))
     × (room_of (stuck 1 6) (9 ∷ 9 ∷ 9 ∷ []) ≡ 9 ∷ 9 ∷ 9 ∷ [])
-    × (WroteRows (12 ∷ 0 ∷ 1 ∷ []) (65 ∷ []) (9 ∷ 9 ∷ 9 ∷ 9 ∷ []) (12 ∷ 1 ∷ 65 ∷ 9 ∷ []) 0 (To 1 3))
+    × (WroteRows (12 ∷ 0 ∷ 1 ∷ []) (65 ∷ []) (9 ∷ 9 ∷ 9 ∷ 9 ∷ []) (12 ∷ 1 ∷ 65 ∷ 9 ∷ []) 0 (Ok (record { rows = 1; place = 3 })))
     × (written_rows 2 (stuck 1 6) ≡ record { refused = 6; rows = 1; place = 2 })
     × (WritesList (12 ∷ 0 ∷ 1 ∷ []) (65 ∷ []) (9 ∷ 9 ∷ []) (9 ∷ 9 ∷ []) 0 (record { refused = 8; rows = 0; place = 0 }))
 

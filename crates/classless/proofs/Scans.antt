@@ -7,17 +7,15 @@ use native.Mathlib.Omega.{arith}
 use native.Mathlib.Decide.{dec_le}
 use lib.ListN.{length, drop, length-append}
 use Rattle.std.proofs.lemmas.List.{append-nil}
-use Rattle.std.specs.Prelude.{Option, Some, None, ok_or, Ok, Err}
+use Rattle.std.specs.Prelude.{Option, Some, None, Ok, Err}
 use Rattle.rfc.specs.Numbers.{given, refused, most_bytes}
 use Rattle.rfc.specs.Routes as rfc
 use Rattle.rfc.specs.Classless.{RouteRow, route_rows, all_row_checks, all_routes, read_routes, nth, route_from}
 use Rattle.rfc.proofs.Numbers.{Clear, done, refuses_front, refuses_behind, clear_both, given_goes_on, refused_stands}
 use Rattle.rfc.proofs.Classless.{from_2, row_none_checks, row-checks, row_none_routes, row_routes, read_2, read_refused, read_given, nth_4, nth_first, nth_later, at_refused, at_given}
 use Rattle.refusal.specs.declared.Refusal.{Refusal}
-use Rattle.refusal.specs.declared.Refusal.TheVariants.{PastEnd}
 use Rattle.refusal.specs.Told.{says}
-use Rattle.classless.specs.Rows.{told_by, route_of, there, how_many, Scanned}
-use Rattle.classless.specs.declared.Route.{Route}
+use Rattle.classless.specs.Rows.{told_by, route_of, there, how_many, kept_of, Scanned}
 use Rattle.classless.specs.declared.Row.{Row}
 use Rattle.classless.specs.declared.Scan.{Scan}
 use Rattle.classless.proofs.Rows.{says_same, short_given, Ahead, ends, stops, goes, ahead}
@@ -59,10 +57,10 @@ pub record Seen (index : ℕ) (v : List ℕ) (at : ℕ) (s : Scan) : Type 0 wher
   pub all : route_rows v ≡ before ++ route_rows (drop at v)
   pub clear : Clear (all_row_checks before)
   pub count : s.count ≡ length (all_routes before)
-  pub route : told_by route_of (ok_or s.route PastEnd) ≡ nth index (all_routes before)
+  pub route : told_by route_of (kept_of s.row) ≡ nth index (all_routes before)
 
 module _ (index : ℕ) (v : List ℕ) where
-  pub seen_none : Seen index v 0 (record { count = 0; route = None })
+  pub seen_none : Seen index v 0 (record { count = 0; row = None })
   seen_none =
       record {
         before = [];
@@ -84,9 +82,9 @@ module _ (index : ℕ) (v : List ℕ) where
           routes_both seen.before (row ∷ []) ∙ ap (λ l. all_routes seen.before ++ l) (one_route row)
           ∙ ap (λ (x : rfc.Route). all_routes seen.before ++ x ∷ []) r
 
-      more : (route : Option Route) → told_by route_of (ok_or route PastEnd) ≡ nth index (all_routes seen.before ++ route_of next.route ∷ [])
-          → Seen index v next.place (record { count = s.count + 1; route = route })
-      more route e =
+      more : (kept : Option Row) → told_by route_of (kept_of kept) ≡ nth index (all_routes seen.before ++ route_of next.route ∷ [])
+          → Seen index v next.place (record { count = s.count + 1; row = kept })
+      more kept e =
           record {
             before = now;
             all = seen.all ∙ ap (λ l. seen.before ++ l) rows ∙ sym (append_assoc seen.before (row ∷ []) (route_rows (drop next.place v)));
@@ -95,15 +93,15 @@ module _ (index : ℕ) (v : List ℕ) where
             route = e ∙ ap (nth index) (sym now_routes);
           }
 
-      pub seen_here : s.count ≡ index → Seen index v next.place (record { count = s.count + 1; route = Some next.route })
+      pub seen_here : s.count ≡ index → Seen index v next.place (record { count = s.count + 1; row = Some next })
       seen_here h =
-          more (Some next.route)
+          more (Some next)
           (sym (ap (λ (k : ℕ). nth k (all_routes seen.before ++ route_of next.route ∷ [])) (sym h ∙ seen.count)
           ∙ nth_here (all_routes seen.before) (route_of next.route)))
 
-      pub seen_other : (s.count ≡ index → ⊥) → Seen index v next.place (record { count = s.count + 1; route = s.route })
+      pub seen_other : (s.count ≡ index → ⊥) → Seen index v next.place (record { count = s.count + 1; row = s.row })
       seen_other h =
-          more s.route (seen.route ∙ sym (nth_other index (all_routes seen.before) (route_of next.route) (λ e. h (seen.count ∙ e))))
+          more s.row (seen.route ∙ sym (nth_other index (all_routes seen.before) (route_of next.route) (λ e. h (seen.count ∙ e))))
 
     -- what is answered there: nothing more
     module _ (within : at ≤ length v) where
@@ -151,11 +149,11 @@ module _ (index : ℕ) (v : List ℕ) where
       -- a row
       pub seen_goes : (next : Row) → told_by there (Ok (Some next)) ≡ route_from v at
           → (at < next.place) × (next.place ≤ length v)
-          × (s.count ≡ index → Seen index v next.place (record { count = s.count + 1; route = Some next.route }))
-          × ((s.count ≡ index → ⊥) → Seen index v next.place (record { count = s.count + 1; route = s.route }))
+          × (s.count ≡ index → Seen index v next.place (record { count = s.count + 1; row = Some next }))
+          × ((s.count ≡ index → ⊥) → Seen index v next.place (record { count = s.count + 1; row = s.row }))
       seen_goes next e = go (ahead v at (short_given v at (Some next) e) (Ok (Some next)) e within)
         where
           go : Ahead v at (Ok (Some next)) → (at < next.place) × (next.place ≤ length v)
-              × (s.count ≡ index → Seen index v next.place (record { count = s.count + 1; route = Some next.route }))
-              × ((s.count ≡ index → ⊥) → Seen index v next.place (record { count = s.count + 1; route = s.route }))
+              × (s.count ≡ index → Seen index v next.place (record { count = s.count + 1; row = Some next }))
+              × ((s.count ≡ index → ⊥) → Seen index v next.place (record { count = s.count + 1; row = s.row }))
           go (goes row rows c r on to) = (on, to, seen_here row next rows c r, seen_other row next rows c r)

@@ -11,6 +11,8 @@ use Rattle.classless.proofs.count_routes.Kinds as count-routes-kinds
 use Rattle.classless.proofs.count_routes.Reads as count-routes
 use Rattle.classless.proofs.route_at.Kinds as route-at-kinds
 use Rattle.classless.proofs.route_at.Reads as route-at
+use Rattle.classless.proofs.Route.len.Kinds as len-kinds
+use Rattle.classless.proofs.Route.len.Reads as len
 use Rattle.classless.proofs.significant.Kinds as significant-kinds
 use Rattle.classless.proofs.significant.Reads as significant
 use Rattle.classless.proofs.put_route.Kinds as put-route-kinds
@@ -24,6 +26,9 @@ count_routes_unique κs a x y s t p q = told_one x y (p ∙ sym q)
 
 route_at_unique : Unique 1 route-at-kinds.ps route-at-kinds.r route-at.Post
 route_at_unique κs a x y s t p q = route_one x y (p ∙ sym q)
+
+len_unique : Unique 0 len-kinds.ps len-kinds.r len.Post
+len_unique κs a x y s t p q = p ∙ sym q
 
 significant_unique : Unique 0 significant-kinds.ps significant-kinds.r significant.Post
 significant_unique κs a x y s t p q = p ∙ sym q

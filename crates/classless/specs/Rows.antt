@@ -1,6 +1,6 @@
 -- What the reader of this crate answers, in the words of the definitions.
 -- Assumes nothing.
-use Rattle.std.specs.Prelude.{ℕ, ◌≡◌, List, length, Option, Some, None, ok_or, Result, Ok, Err}
+use Rattle.std.specs.Prelude.{ℕ, ◌≡◌, List, length, Option, Some, None, Result, Ok, Err}
 use Rattle.rfc.specs.Numbers.{Answer, given, and_then}
 use Rattle.rfc.specs.Routes as rfc
 use Rattle.rfc.specs.Classless.{RouteThere, no_route, route, read_routes, route_at}
@@ -29,9 +29,13 @@ there (Some row) = route (route_of row.route) row.place
 unfoldable pub how_many : Answer (List rfc.Route) → Answer ℕ
 how_many routes = and_then routes (λ (rs : List rfc.Route). given (length rs))
 
--- the route that a scan has kept; 4: there is none at the index
+-- the route of the row that a scan has kept; 4: there is none at the index
+abbrev pub kept_of : Option Row → Result Route Refusal
+kept_of (Some row) = Ok row.route
+kept_of None = Err PastEnd
+
 abbrev pub kept : Result Scan Refusal → Result Route Refusal
-kept (Ok s) = ok_or s.route PastEnd
+kept (Ok s) = kept_of s.row
 kept (Err e) = Err e
 
 -- a scan of a value says what the reader says

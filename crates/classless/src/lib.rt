@@ -2,7 +2,7 @@
 // a place on or by their index, with the destination masked to its width; and one is put into a value that is being written.
 #![tactic(auto)]
 
-ghost use Rattle.std.specs.Prelude.{◌≡◌, min, ◌≤◌};
+ghost use Rattle.std.specs.Prelude.{◌≡◌, min, ◌≤◌, length};
 ghost use mathlib.Core.List.{foldl};
 ghost use Rattle.rfc.specs.Routes as rfc;
 ghost use Rattle.rfc.specs.Classless as read;
@@ -29,6 +29,16 @@ pub struct Route {
     pub gateway: u32,
 }
 
+impl Route {
+    // How many bytes it has, written.
+    #[tactic(auto, using(rfc::proofs::Routes::length_route))]
+    pub fn len(self) -> u16
+        ensures { result ≡ length (rfc.route_bytes (route_of self)) }
+    {
+        (1 + significant(self.width) + ADDRESS) as u16
+    }
+}
+
 // A row that was read: its route, and the place behind it, where the next row begins.
 #[derive(Clone, Copy)]
 pub struct Row {
@@ -36,11 +46,11 @@ pub struct Row {
     pub place: usize,
 }
 
-// What was seen of the rows of a value: how many there are, and the route at the index that was looked for, if there is one.
+// What was seen of the rows of a value: how many there are, and the one at the index that was looked for, if it is there.
 #[derive(Drop)]
 struct Scan {
     count: usize,
-    route: Option<Route>,
+    row: Option<Row>,
 }
 
 // The row that begins at `place`, if the value does not end there. Behind a width there are four bytes or more, so that the destination is
@@ -91,21 +101,22 @@ pub fn route_at(value: &[u8], index: usize) -> Result<Route, Refusal>
     ensures { told_by route_of result ≡ read.route_at index value.now }
 {
     let scan = scan_rows(value, index)?;
-    scan.route.ok_or(Refusal::PastEnd)
+    let row = scan.row.ok_or(Refusal::PastEnd)?;
+    Ok(row.route)
 }
 
-// All rows of `value`, counted, and the route at `index` kept.
+// All rows of `value`, counted, and the one at `index` kept.
 fn scan_rows(value: &[u8], index: usize) -> Result<Scan, Refusal>
     ensures { Scanned index value.now result }
 {
     let mut scan = Scan {
         count: 0,
-        route: None,
+        row: None,
     };
     let mut at = 0;
     while let Some(row) = route_from(value, at)? {
         if scan.count == index {
-            scan.route = Some(row.route);
+            scan.row = Some(row);
         }
         scan.count += 1;
         at = row.place;
@@ -126,12 +137,13 @@ fn masked(width: u8, address: u32) -> u32
     (address >> n) << n
 }
 
-// How many bytes of a destination are written.
+// How many bytes of a destination are written. The sum does not overflow; with `div_ceil`, which looks at the remainder, reading a route took
+// a fifth longer.
 #[tactic(auto, using(rfc::proofs::Routes::significant_is))]
 pub fn significant(width: u8) -> usize
     ensures { result ≡ min 4 (rfc.significant width) }
 {
-    usize::from(width).div_ceil(8).min(ADDRESS)
+    ((usize::from(width) + 7) / 8).min(ADDRESS)
 }
 
 // Puts the bytes of one route: its width, the significant bytes of its destination, its gateway.

@@ -36,7 +36,7 @@ short_stops message h g = sym (refuses _ (laws.message_short message h g))
 
 -- a message that is refused, and so each answer about it
 module _ (message : List ℕ) (e : Refusal) (s : Stopped message e) where
-  stopped : {A : Type 0} → Refuses (message_checks message) (number_of e) × (says {A = A} e ≡ refused (number_of e))
+  pub stopped : {A : Type 0} → Refuses (message_checks message) (number_of e) × (says {A = A} e ≡ refused (number_of e))
   stopped {A} =
       says_as (λ (a : Answer (Unit {0})) (b : Answer A) k len. a ≡ checked (message_checks message) (given (tt {0}))
       → Refuses (message_checks message) k × (b ≡ refused k))

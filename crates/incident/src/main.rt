@@ -9,20 +9,19 @@ use values::answer::Value;
 use whole::Whole;
 
 fn main(rt: HostRuntime) -> io::Result<()> {
-    let mut message = [7u8; 283];
-    if write_message(&mut message).is_err() {
-        return println!(rt; "the message could not be written");
-    }
-    tell(&rt, &message[..244])?;
+    let message = message();
+    tell(&rt, borrowed::part(&message, 0, 244))?;
     tell(&rt, &message)
 }
 
 // A reply with zeros up to the magic, and behind it `53 1 5 255`.
-fn write_message(message: &mut [u8]) -> Result<usize, Refusal> {
-    encoder::write_slice(message, 0, &[0; 236])?;
-    encoder::write_slice(message, Header::OP, &[2, 1, 255])?;
-    encoder::write_slice(message, Header::MAGIC, &[99, 130, 83, 99])?;
-    encoder::write_slice(message, Header::OPTIONS, &[53, 1, 5, 255])
+fn message() -> [u8; 283] {
+    let mut message = [7; 283];
+    message[..Header::MAGIC].fill(0);
+    message[Header::OP..Header::HOPS].copy_from_slice(&[2, 1, 255]);
+    message[Header::MAGIC..Header::OPTIONS].copy_from_slice(&[99, 130, 83, 99]);
+    message[Header::OPTIONS..Header::OPTIONS + 4].copy_from_slice(&[53, 1, 5, 255]);
+    message
 }
 
 fn tell(rt: &impl Print, message: &[u8]) -> io::Result<()> {

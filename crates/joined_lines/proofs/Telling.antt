@@ -1,70 +1,63 @@
 -- The laws of `specs/Joined.antt`: what each line says, by what the library answered.
 -- Assumes nothing.
-use mathlib.Core.Path.{◌≡◌, refl, ap, ◌∙◌}
+use mathlib.Core.Path.{◌≡◌, refl, sym, ◌∙◌}
 use Prim.Native.Nat.{ℕ, suc, ◌+◌, ◌-◌, ◌≤◌, ◌<◌}
 use native.Mathlib.Omega.{arith}
-use mathlib.Core.Bool.{Bool, cond}
 use mathlib.Core.List.{List, [], ◌++◌}
 use lib.ListN.{length}
 use borrow.Author.Tests.{lt-ltb, le-ltb}
-use Rattle.rfc.specs.Header.{area}
+use Rattle.rfc.specs.Numbers.{Answer, given}
+use Rattle.rfc.specs.Header.{Area, area}
+use Rattle.rfc.specs.Walk.{Found, Stop, stop, option}
 use Rattle.rfc.specs.Aggregate.{entry}
-use Rattle.rfc.proofs.Naming.{Names}
-use Rattle.borrowed.specs.Walked.{says, shown}
-use Rattle.borrowed.specs.declared.answer.Stop.{Stop}
-use Rattle.borrowed.specs.declared.answer.Step.{Step}
-use Rattle.borrowed.specs.declared.answer.Step.TheVariants as step
-use Rattle.pen.specs.Adding.{State, adds_all}
-use Rattle.pen.proofs.Adding.{both}
+use Rattle.refusal.specs.declared.Refusal.{Refusal}
+use Rattle.refusal.specs.Told.{says, number_of}
+use Rattle.refusal.proofs.Told.{says_as}
 use Rattle.lines.specs.Words as words
 use Rattle.lines.specs.Words.{newline}
 use Rattle.lines.specs.Listing.{most_listed, refused_line, option_line}
-use Rattle.joined_lines.specs.JoinedWords as joined
-use Rattle.joined_lines.specs.Joined.{fields_line, codes_line, in_turn, entries_in, joined_lines, joined_listing}
+use Rattle.joined_lines.specs.Joined.{codes_line, in_turn, entries_in, fields_lines, joined_lines, joined_listing}
 
--- line 1
-pub fields_named : (overload : ℕ) (file sname : Bool) → Names overload file sname
-    → joined.fields ++ joined.options ++ cond file joined.file [] ++ cond sname joined.sname [] ++ newline ≡ fields_line overload
-unfolding fields_line
-fields_named overload file sname (e, g) = rw (e, g)
+-- what a refusal says is its number's line
+pub fields_refused : (message : List ℕ) (e : Refusal) → fields_lines message (says e) ≡ refused_line (number_of e)
+unfolding fields_lines
+fields_refused message = says_as (λ (a b : Answer ℕ) k len. fields_lines message a ≡ refused_line k) (λ k. refl) (λ len. refl)
+
+pub lines_refused : (message : List ℕ) (e : Refusal) → joined_lines message (says e) ≡ refused_line (number_of e)
+unfolding joined_lines
+lines_refused message = says_as (λ (a b : Answer Area) k len. joined_lines message a ≡ refused_line k) (λ k. refl) (λ len. refl)
+
+turn_refused : (index : ℕ) (more : List ℕ) (e : Refusal) → in_turn (says e) index more ≡ refused_line (number_of e)
+unfolding in_turn
+turn_refused index more = says_as (λ (a b : Answer Found) k len. in_turn a index more ≡ refused_line k) (λ k. refl) (λ len. refl)
 
 -- index after index: an option has more lines behind it; any other answer is the last line
-module _ (message join : List ℕ) (room index k : ℕ) (some : index < k) (found : Step)
-    (told : says found message join ≡ entry message index room) where
-  entries_next : in_turn (says found message join) index (entries_in (k - (index + 1)) room message (index + 1))
-      ≡ entries_in (k - index) room message index
+module _ (message : List ℕ) (room calls index : ℕ) (some : index < calls) where
+  entries_next : (a : Answer Found) → a ≡ entry message index room
+      → in_turn a index (entries_in (calls - (index + 1)) room message (index + 1)) ≡ entries_in (calls - index) room message index
   unfolding entries_in
-  entries_next =
-      let more : k - index ≡ suc (k - (index + 1)) = omega arith in
+  entries_next a told =
+      let more : calls - index ≡ suc (calls - (index + 1)) = omega arith in
       rw (more, told)
 
-  pub entries_stopped : (s : Stop) (at : ℕ) → found ≡ step.Stopped s at → codes_line index ≡ entries_in (k - index) room message index
+  pub entries_stopped : (s : Stop) (at : ℕ) → given (stop s at) ≡ entry message index room
+      → codes_line index ≡ entries_in (calls - index) room message index
   unfolding in_turn
-  entries_stopped s at is = rw is at entries_next
+  entries_stopped s at told = entries_next (given (stop s at)) told
 
-  pub entries_refused : (number : ℕ) → found ≡ step.Refused number → refused_line number ≡ entries_in (k - index) room message index
+  pub entries_refused : (e : Refusal) → says e ≡ entry message index room
+      → refused_line (number_of e) ≡ entries_in (calls - index) room message index
+  entries_refused e told = sym (turn_refused index _ e) ∙ entries_next (says e) told
+
+  pub entries_more : (code parts at : ℕ) (v : List ℕ) → given (option code v parts at) ≡ entry message index room
+      → option_line code v parts ++ entries_in (calls - (index + 1)) room message (index + 1) ≡ entries_in (calls - index) room message index
   unfolding in_turn
-  entries_refused number is = rw is at entries_next
+  entries_more code parts at v told = entries_next (given (option code v parts at)) told
 
-  pub entries_needs : (len : ℕ) → found ≡ step.Needs len → refused_line 5 ≡ entries_in (k - index) room message index
-  unfolding in_turn
-  entries_needs len is = rw is at entries_next
-
-  pub entries_more : {t : State} (s : State) (code parts len place : ℕ) → found ≡ step.Found code parts len place
-      → t ≡ adds_all s (option_line code (shown parts len place message join) parts)
-      → adds_all t (entries_in (k - (index + 1)) room message (index + 1)) ≡ adds_all s (entries_in (k - index) room message index)
-  unfolding in_turn
-  entries_more s code parts len place is e = both s _ _ e refl ∙ ap (adds_all s) (rw is at entries_next)
-
-pub entries_first : (room : ℕ) (message : List ℕ) (k : ℕ) → entries_in (k - 0) room message 0 ≡ entries_in k room message 0
-entries_first room message k =
-    let all : k - 0 ≡ k = omega arith in
-    rw all
-
-pub entries_none : (room : ℕ) (message : List ℕ) (index k : ℕ) → k ≤ index → entries_in (k - index) room message index ≡ []
+pub entries_none : (room : ℕ) (message : List ℕ) (index calls : ℕ) → calls ≤ index → [] ≡ entries_in (calls - index) room message index
 unfolding entries_in
-entries_none room message index k h =
-    let none : k - index ≡ 0 = omega arith in
+entries_none room message index calls h =
+    let none : calls - index ≡ 0 = omega arith in
     rw none
 
 -- the whole text

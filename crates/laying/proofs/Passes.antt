@@ -2,18 +2,21 @@
 -- Assumes nothing.
 use mathlib.Core.Path.{◌≡◌, refl, sym, ap, ◌∙◌}
 use Prim.Native.Nat.{ℕ, ◌+◌, ◌≤◌, ◌<◌, min}
-use mathlib.Core.Bool.{true, false}
+use mathlib.Core.Bool.{true, false, cond}
 use mathlib.Core.List.{List}
+use lib.Dec.{ltb}
 use lib.ListN.{length, set}
 use Rattle.std.proofs.Common.{◌⊎◌, inl, inr, true≢false}
 use borrow.Author.Tests.{le-ltb, lt-ltb, eq-eqb, ne_eqb, le-leb, lt-leb}
 use Rattle.std.specs.Prelude.{Option, Some, None, is_some, Result, Ok, Err}
-use Rattle.rfc.specs.Numbers.{most_bytes, most_value, first_refusal}
+use Rattle.rfc.specs.Numbers.{refused, most_bytes, most_value, first_refusal}
 use Rattle.rfc.specs.Writing.{size_in_parts}
+use Rattle.rfc.proofs.Numbers.{Refuses, first_is}
 use Rattle.rfc.specs.Strung.{RowMade}
 use Rattle.refusal.specs.declared.Refusal.{Refusal}
 use Rattle.refusal.specs.declared.Refusal.TheVariants.{TooLong, PastEnd, ValueTooLong, NoRoom}
-use Rattle.refusal.specs.Told.{refusal_of}
+use Rattle.refusal.specs.Told.{refusal_of, says}
+use Rattle.refusal.proofs.Told.{says_number}
 use Rattle.laying.specs.Passes.{first, refuse, with_len, headed, onward}
 use Rattle.laying.specs.Passes.{begun, measured, row_of, turned, opened, added, outcome, answered}
 use Rattle.laying.specs.declared.Pass.{Pass}
@@ -81,6 +84,13 @@ row_bad m k e h = rw (e, lt-ltb 0 k h)
 pub row_good : (m : RowMade) (n : ℕ) → first_refusal m.checks ≤ 0 → n ≡ length m.bytes → row_of m ≡ Ok n
 unfolding row_of
 row_good m n h e = rw (le-ltb 0 (first_refusal m.checks) h) (ap Ok (sym e))
+
+pub row_refused : (m : RowMade) (e : Refusal) (k : ℕ) → Refuses m.checks k → says {A = ℕ} e ≡ refused k → row_of m ≡ Err e
+row_refused m e k r s = let own = says_number e k s in row_bad m k (first_is r) own.1 ∙ ap Err own.0
+
+pub row_alike : (m n : RowMade) → first_refusal m.checks ≡ first_refusal n.checks → length m.bytes ≡ length n.bytes → row_of m ≡ row_of n
+unfolding row_of
+row_alike m n c b = λ i. cond (ltb 0 (c i)) (Err (refusal_of (c i))) (Ok (b i))
 
 -- between the passes
 module _ (p : Pass) (n : ℕ) where

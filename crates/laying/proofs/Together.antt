@@ -7,7 +7,7 @@ use mathlib.Core.List.{List, foldl}
 use native.Mathlib.Omega.{arith}
 use native.Mathlib.Decide.{dec_le}
 use lib.ListN.{length}
-use Rattle.std.specs.Prelude.{Some, is_some, Result}
+use Rattle.std.specs.Prelude.{Some, is_some, Result, Err}
 use Rattle.rfc.specs.Numbers.{given, refused, most_bytes, most_value}
 use Rattle.rfc.specs.Writing.{Write, encode, answer_to}
 use Rattle.rfc.specs.Strung.{RowMade, all_checks, all_bytes}
@@ -114,18 +114,35 @@ module _ (w : Write) (most code : ℕ) (ms : List RowMade) (room : List ℕ) (pl
         go (no long) within =
             absurd (not_both p (ap (λ (q : Pass). is_some q.refusal) (e ∙ begun_2 n place code most (omega arith))) h)
 
-    -- so both passes, from there on
-    pub both_passes : 0 < most → EachKnown ms
-        → (most_bytes < n → answer_to w room place ≡ refused 2)
-        → (n ≤ most_bytes → n < place → answer_to w room place ≡ refused 4)
-        → (n ≤ most_bytes → place ≤ n → Decides w most code ms room place) → Done (laid p ms room)
-    both_passes some known by_2 by_4 decides = go (dec_le n most_bytes) (dec_le place n)
-      where
-        go : Dec (n ≤ most_bytes) → Dec (place ≤ n) → Done (laid p ms room)
-        go (yes short) (yes within) =
-            rw (e ∙ begun_first n place code most short within) (from_first some (decides short within) known)
-        go (yes short) (no outside) =
-            refused_before p PastEnd 4 (ap (λ (q : Pass). q.refusal) (e ∙ begun_4 n place code most short (omega arith))) refl
-            (by_4 short (omega arith))
-        go (no long) within =
-            refused_before p TooLong 2 (ap (λ (q : Pass). q.refusal) (e ∙ begun_2 n place code most (omega arith))) refl (by_2 (omega arith))
+    module _ (by_2 : most_bytes < n → answer_to w room place ≡ refused 2)
+        (by_4 : n ≤ most_bytes → n < place → answer_to w room place ≡ refused 4) where
+      pub begun_stops : (r : Refusal) → p.refusal ≡ Some r → Done (Err r, room)
+      begun_stops r is = go (dec_le n most_bytes) (dec_le place n)
+        where
+          by : (k : ℕ) (q : Pass) (f : Refusal) → p ≡ q → q.refusal ≡ Some f → says {A = ℕ} f ≡ refused k → answer_to w room place ≡ refused k
+              → Done (Err r, room)
+          by k q f same has s a =
+              let one : f ≡ r = let both = sym has ∙ sym (ap (λ (x : Pass). x.refusal) same) ∙ is in cc in
+              rw (← one) (refuses w room place f k s a)
+
+          go : Dec (n ≤ most_bytes) → Dec (place ≤ n) → Done (Err r, room)
+          go (yes short) (yes within) =
+              absurd (not_both p (ap is_some is) (ap (λ (q : Pass). is_some q.refusal) (e ∙ begun_first n place code most short within)))
+          go (yes short) (no outside) =
+              by 4 (refuse PastEnd (first place code most)) PastEnd (e ∙ begun_4 n place code most short (omega arith)) refl refl
+              (by_4 short (omega arith))
+          go (no long) within =
+              by 2 (refuse TooLong (first place code most)) TooLong (e ∙ begun_2 n place code most (omega arith)) refl refl (by_2 (omega arith))
+
+      -- so both passes, from there on
+      pub both_passes : 0 < most → EachKnown ms → (n ≤ most_bytes → place ≤ n → Decides w most code ms room place) → Done (laid p ms room)
+      both_passes some known decides = go (dec_le n most_bytes) (dec_le place n)
+        where
+          go : Dec (n ≤ most_bytes) → Dec (place ≤ n) → Done (laid p ms room)
+          go (yes short) (yes within) =
+              rw (e ∙ begun_first n place code most short within) (from_first some (decides short within) known)
+          go (yes short) (no outside) =
+              refused_before p PastEnd 4 (ap (λ (q : Pass). q.refusal) (e ∙ begun_4 n place code most short (omega arith))) refl
+              (by_4 short (omega arith))
+          go (no long) within =
+              refused_before p TooLong 2 (ap (λ (q : Pass). q.refusal) (e ∙ begun_2 n place code most (omega arith))) refl (by_2 (omega arith))

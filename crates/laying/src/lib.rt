@@ -154,7 +154,10 @@ impl Pass {
         ensures { (result, room.new) ≡ opened (self, room.old) }
     {
         let at = self.at;
-        if self.part > 0 || room.len() < 2 || at > room.len() - 2 {
+        if self.part > 0 {
+            return self;
+        }
+        if room.len() < 2 || at > room.len() - 2 {
             return self;
         }
         let n = parts::next_piece(self.len, self.most as usize);
@@ -168,13 +171,17 @@ impl Pass {
         }
     }
 
-    // Puts one byte of a part, if one is to come and it fits.
+    // Puts one byte of a part, if one is to come and it fits. Where a part has more to come, the compiler goes from here to the next byte
+    // past the test that `open_part` makes of the same; with one `if` for both tests, or for the first two there, it made all of them.
     #[tactic(auto, unfolding(crate::specs::Passes::added))]
     fn add(self, room: &mut [u8], byte: u8) -> Pass
         ensures { (result, room.new) ≡ added (self, room.old) byte }
     {
         let at = self.at;
-        if self.part == 0 || at >= room.len() {
+        if self.part == 0 {
+            return self;
+        }
+        if at >= room.len() {
             return self;
         }
         room[at] = byte;

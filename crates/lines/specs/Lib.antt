@@ -1,3 +1,3 @@
 pub mod Words
 pub mod Listing
-pub mod Told
+pub mod Listed

@@ -6,210 +6,159 @@ ghost use Rattle.std.specs.Prelude.{◌≡◌, length};
 ghost use Rattle.rfc.specs.Header as rfc;
 ghost use Rattle.rfc.specs.Writing.{into_room};
 ghost use Rattle.encoder.specs.Written.{Wrote};
-ghost use Rattle.header.specs.declared.Number.TheVariants.{Is};
 ghost use Rattle.borrowed.specs.Walked.{stop_of};
-ghost use Rattle.pen.specs.Adding.{adds_all};
-ghost use Rattle.lines.specs.Listing.{message_line, spill_text, address_text, chaddr_line, area_lines, listing};
+ghost use Rattle.pen.specs.Added.{Added};
+ghost use Rattle.lines.specs.Listing.{message_line, address_text, area_lines, listing};
 ghost use Rattle.lines.specs.Listing.{refused_line, option_line, stop_word, stop_line, lines_in};
-ghost use Rattle.lines.specs.Told.{Listed, Given};
+ghost use Rattle.lines.specs.Listed.{Listed};
 
 use borrowed::answer::{Step, Stop};
-use encoder::Written;
-use header::{Area, Chaddr, Header, Number};
-use limits::{LEAST_MESSAGE, MOST_BYTES};
+use header::Header;
+use limits::LEAST_MESSAGE;
+use pen::{Pen, Show};
+use refusal::Refusal;
 
 // The most bytes of a message that is listed, and the room in which its options are joined.
 pub const MOST_LISTED: usize = 4096;
 
+// A message that is listed.
+#[derive(Drop)]
+struct Listing<'a> {
+    message: &'a [u8],
+}
+
+impl<'a> Show for Listing<'a> {
+    ghost text = { λ it. listing it.message.now };
+
+    #[tactic(auto, using(crate::proofs::Telling::listing_long, crate::proofs::Telling::listing_short))]
+    fn show(&self, pen: &mut Pen) {
+        if self.message.len() > MOST_LISTED {
+            pen.word(b"too long\n");
+            return;
+        }
+        if self.message.len() < LEAST_MESSAGE {
+            put_refused(pen, Refusal::MessageTooShort.number());
+            return;
+        }
+        put_message(pen, self.message);
+        pen.word(b"chaddr");
+        put_address(pen, self.message);
+        put_area(pen, self.message);
+    }
+}
+
 // Writes the listing of `message` at `place`.
-pub fn write_listing(room: &mut [u8], place: usize, message: &[u8]) -> Written
+pub fn write_listing(room: &mut [u8], place: usize, message: &[u8]) -> Result<usize, Refusal>
     ensures { Wrote (into_room (listing message.now) room.old place)
         room.old room.new place result }
 {
-    if room.len() > MOST_BYTES {
-        return Written::Refused(2);
-    }
-    if place > room.len() {
-        return Written::Refused(4);
-    }
-    // Outside a room a text is counted and not written: so it is measured.
-    let mut nowhere = [0u8; 1];
-    let size = put_listing(&mut nowhere, 0, message);
-    if size > room.len() - place {
-        return Written::Refused(8);
-    }
-    let to = put_listing(room, place, message);
-    Written::To(to)
-}
-
-// Adds the whole listing.
-fn put_listing(text: &mut [u8], at: usize, message: &[u8]) -> usize
-    ensures { (text.new, result) ≡ adds_all (text.old, at) (listing message.now) }
-{
-    if message.len() > MOST_LISTED {
-        return pen::put_word(text, at, b"too long\n");
-    }
-    if message.len() < LEAST_MESSAGE {
-        return put_refused(text, at, 1);
-    }
-    let address = put_message(text, at, message);
-    let options = put_chaddr(text, address, message);
-    put_area(text, options, message)
+    pen::write(room, place, &Listing { message })
 }
 
 // Adds the line of a refusal.
-pub fn put_refused(text: &mut [u8], at: usize, number: u8) -> usize
-    ensures { (text.new, result) ≡ adds_all (text.old, at) (refused_line number) }
+pub fn put_refused(pen: &mut Pen, number: u8)
+    ensures { Added pen.old pen.new (refused_line number) }
 {
-    let to = pen::put_named(text, at, b"refused ", number as usize);
-    pen::put_word(text, to, b"\n")
+    pen.named(b"refused ", number as usize);
+    pen.word(b"\n");
 }
 
-// Adds the line of the message's length and of four numbers of its header.
-fn put_message(text: &mut [u8], at: usize, message: &[u8]) -> usize
+// Adds the line of the message's length and of four numbers of its header, none of which is refused.
+#[tactic(auto, using(crate::proofs::Telling::field_given))]
+fn put_message(pen: &mut Pen, message: &[u8])
     requires { Listed message.now }
-    ensures { (text.new, result) ≡ adds_all (text.old, at) (message_line message.now) }
+    ensures { Added pen.old pen.new (message_line message.now) }
 {
-    let op = pen::put_named(text, at, b"message ", message.len());
-    let htype = pen::put_named(text, op, b" op ", number_in(Header::op(message)));
-    let hlen = pen::put_named(text, htype, b" htype ", number_in(Header::htype(message)));
-    let xid = pen::put_named(text, hlen, b" hlen ", number_in(Header::hlen(message)));
-    let end = pen::put_named(text, xid, b" xid ", number_in(Header::xid(message)));
-    pen::put_word(text, end, b"\n")
-}
-
-// A number of the header, of a message that is listed.
-fn number_in(number: Number) -> usize
-    requires { Given number }
-    ensures { number ≡ Is result }
-{
-    match number {
-        Number::Is(n) => n,
-        // Never: what is required rules it out, and the contract has no answer for it.
-        Number::Refused(_) => 0,
-    }
-}
-
-// Adds the line of the hardware address.
-fn put_chaddr(text: &mut [u8], at: usize, message: &[u8]) -> usize
-    ensures { (text.new, result) ≡ adds_all (text.old, at) (chaddr_line message.now) }
-{
-    let to = pen::put_word(text, at, b"chaddr");
-    put_address(text, to, message)
+    pen.named(b"message ", message.len());
+    pen.named(b" op ", Header::op(message).unwrap());
+    pen.named(b" htype ", Header::htype(message).unwrap());
+    pen.named(b" hlen ", Header::hlen(message).unwrap());
+    pen.named(b" xid ", Header::xid(message).unwrap());
+    pen.word(b"\n");
 }
 
 // Adds the bytes of the hardware address and whether it spills, or its refusal.
-fn put_address(text: &mut [u8], at: usize, message: &[u8]) -> usize
-    ensures { (text.new, result)
-        ≡ adds_all (text.old, at) (address_text message.now (rfc.chaddr message.now)) }
+fn put_address(pen: &mut Pen, message: &[u8])
+    ensures { Added pen.old pen.new (address_text message.now (rfc.chaddr message.now)) }
 {
     match Header::chaddr(message) {
-        Chaddr::Refused(number) => {
-            let to = pen::put_word(text, at, b" ");
-            put_refused(text, to, number)
+        Ok(chaddr) => {
+            pen.spaced(borrowed::part(message, chaddr.start, chaddr.len));
+            if chaddr.spills {
+                pen.word(b" spill");
+            }
+            pen.word(b"\n");
         }
-        Chaddr::At {
-            start,
-            len,
-            own: _,
-            spills,
-        } => {
-            let end = pen::put_spaced(text, at, borrowed::part(message, start, len));
-            put_spill(text, end, spills)
+        Err(refusal) => {
+            pen.word(b" ");
+            put_refused(pen, refusal.number());
         }
     }
-}
-
-// Adds the end of the address's line, and in front of it the word for an address that spills.
-fn put_spill(text: &mut [u8], at: usize, spills: bool) -> usize
-    ensures { (text.new, result) ≡ adds_all (text.old, at) (spill_text spills) }
-{
-    if spills {
-        return pen::put_word(text, at, b" spill\n");
-    }
-    pen::put_word(text, at, b"\n")
 }
 
 // Adds the lines of the options.
-fn put_area(text: &mut [u8], at: usize, message: &[u8]) -> usize
-    ensures { (text.new, result)
-        ≡ adds_all (text.old, at) (area_lines message.now (rfc.area message.now)) }
+#[tactic(auto, using(crate::proofs::Telling::area_refused), unfolding(crate::specs::Listing::area_lines))]
+fn put_area(pen: &mut Pen, message: &[u8])
+    ensures { Added pen.old pen.new (area_lines message.now (rfc.area message.now)) }
 {
     match Header::area(message) {
-        Area::Refused(number) => put_refused(text, at, number),
-        Area::WrongMagic => pen::put_word(text, at, b"magic wrong\n"),
-        Area::At { start, len } => {
+        Ok(Some(span)) => {
+            let area = borrowed::part(message, span.start, span.len);
             let mut join = [0u8; MOST_LISTED];
-            put_options(
-                text,
-                at,
-                borrowed::part(message, start, len),
-                &mut join,
-                message.len(),
-            )
+            put_options(pen, area, &mut join, message.len());
         }
+        Ok(None) => pen.word(b"magic wrong\n"),
+        Err(refusal) => put_refused(pen, refusal.number()),
     }
 }
 
 // Adds a line for each option, and the ending, in no more than so many calls of the walk.
-fn put_options(text: &mut [u8], at: usize, area: &[u8], join: &mut [u8], calls: usize) -> usize
-    ensures { (text.new, result)
-        ≡ adds_all (text.old, at) (lines_in calls (length join.old) area.now 0) }
+#[tactic(auto, using(crate::proofs::Resting::begins))]
+fn put_options(pen: &mut Pen, area: &[u8], join: &mut [u8], calls: usize)
+    ensures { Added pen.old pen.new (lines_in calls (length join.old) area.now 0) }
 {
-    let mut to = at;
     let mut place: usize = 0;
-    let mut left = calls;
-    while left > 0 {
-        left -= 1;
+    for _ in 0..calls {
         match borrowed::step(area, place, join) {
-            Step::Found {
-                code,
-                parts,
-                len,
-                place: next,
-            } => {
-                let value = borrowed::value(area, join, parts, len, next);
-                to = put_option(text, to, code, parts, value);
-                place = next;
+            Ok(Step::Found(found)) => {
+                put_option(pen, found.code, found.parts, found.value(area, join));
+                place = found.place;
             }
-            Step::Stopped(stop, end) => return put_stop(text, to, stop, end),
-            Step::Refused(number) => return put_refused(text, to, number),
-            Step::Needs(_) => return put_refused(text, to, 5),
+            Ok(Step::Stopped(stop, end)) => return put_stop(pen, stop, end),
+            Err(refusal) => return put_refused(pen, refusal.number()),
         }
     }
-    to
 }
 
 // Adds the line of an option.
-pub fn put_option(text: &mut [u8], at: usize, code: u8, parts: usize, value: &[u8]) -> usize
-    ensures { (text.new, result) ≡ adds_all (text.old, at) (option_line code value.now parts) }
+pub fn put_option(pen: &mut Pen, code: u8, parts: usize, value: &[u8])
+    ensures { Added pen.old pen.new (option_line code value.now parts) }
 {
-    let kind = pen::put_named(text, at, b"option ", code as usize);
-    let counted = pen::put_named(text, kind, b" kind ", kinds::kind_of(code) as usize);
-    let shown = pen::put_named(text, counted, b" parts ", parts);
-    let bytes = pen::put_word(text, shown, b" value");
-    let end = pen::put_spaced(text, bytes, value);
-    pen::put_word(text, end, b"\n")
+    pen.named(b"option ", code as usize);
+    pen.named(b" kind ", kinds::kind_of(code).number() as usize);
+    pen.named(b" parts ", parts);
+    pen.word(b" value");
+    pen.spaced(value);
+    pen.word(b"\n");
 }
 
 // Adds the line of a stop and its place.
-fn put_stop(text: &mut [u8], at: usize, stop: Stop, place: usize) -> usize
-    ensures { (text.new, result) ≡ adds_all (text.old, at) (stop_line (stop_of stop) place) }
+fn put_stop(pen: &mut Pen, stop: Stop, place: usize)
+    ensures { Added pen.old pen.new (stop_line (stop_of stop) place) }
 {
-    let number = put_stop_word(text, at, stop);
-    let end = pen::put_decimal(text, number, place);
-    pen::put_word(text, end, b"\n")
+    pen.named(stop_word(stop), place);
+    pen.word(b"\n");
 }
 
-// Adds the name of a stop.
-fn put_stop_word(text: &mut [u8], at: usize, stop: Stop) -> usize
-    ensures { (text.new, result) ≡ adds_all (text.old, at) (stop_word (stop_of stop)) }
+// The name of a stop.
+fn stop_word(stop: Stop) -> &'static [u8]
+    ensures { result.now ≡ stop_word (stop_of stop) }
 {
     match stop {
-        Stop::Out => pen::put_word(text, at, b"stop out "),
-        Stop::End => pen::put_word(text, at, b"stop end "),
-        Stop::CutLength => pen::put_word(text, at, b"stop cut length "),
-        Stop::CutValue => pen::put_word(text, at, b"stop cut value "),
-        Stop::CutContinuation => pen::put_word(text, at, b"stop cut continuation "),
+        Stop::Out => b"stop out ",
+        Stop::End => b"stop end ",
+        Stop::CutLength => b"stop cut length ",
+        Stop::CutValue => b"stop cut value ",
+        Stop::CutContinuation => b"stop cut continuation ",
     }
 }

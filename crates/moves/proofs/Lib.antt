@@ -1,3 +1,3 @@
 pub mod Rows
-pub mod Whole
 pub mod Unique
+pub mod Whole

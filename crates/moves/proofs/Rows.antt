@@ -1,167 +1,178 @@
--- What the code knows of a row, and what the passes make of it.
+-- What is made of a row, and what the passes make of it.
 -- Assumes nothing.
 use mathlib.Core.Path.{◌≡◌, refl, sym, ap, ◌∙◌}
-use Prim.Native.Nat.{ℕ, ◌+◌, ◌≤◌, ◌<◌, min}
+use Prim.Native.Nat.{ℕ, ◌≤◌, ◌<◌, ◌%◌}
 use mathlib.Core.Bool.{true, false}
-use mathlib.Core.List.{List, ◌∷◌, ◌++◌, map, foldl, foldl-append}
+use mathlib.Core.List.{List, [], ◌∷◌, ◌++◌, map, foldl, foldl-append}
 use native.Mathlib.Omega.{arith}
-use native.Mathlib.Decide.{dec_le}
-use borrow.Author.Tests.{lt-ltb, le-ltb}
 use lib.Dec.{lit<}
-use lib.ListN.{length, drop}
-use Rattle.facts.specs.BigEndian.{digits, number_at}
-use Rattle.rfc.specs.Numbers.{first_refusal}
-use Rattle.rfc.specs.Routes.{Route, significant, route_bytes}
-use Rattle.rfc.specs.Classless.{RouteRow}
+use lib.ListN.{length, take, drop, length-append, length-drop}
+use lib.Seq.{take-append_seam, drop-append_seam, take-length}
+use Rattle.std.specs.Prelude.{Some, None, Ok, Err}
+use Rattle.facts.specs.BigEndian.{digits, number, number_at}
+use Rattle.facts.specs.Pieces.{pieces}
+use Rattle.facts.proofs.BigEndian.{number_there}
+use Rattle.facts.proofs.Pieces.{pieces_more}
+use Rattle.rfc.specs.Numbers.{given, most_bytes, first_refusal}
+use Rattle.rfc.specs.Kinds.{size_of, sizes}
+use Rattle.rfc.specs.Routes as rfc
+use Rattle.rfc.specs.Routes.{route_bytes}
+use Rattle.rfc.specs.Classless.{route_rows, route_from}
 use Rattle.rfc.specs.Strung.{RowMade, all_checks, all_bytes}
-use Rattle.rfc.specs.Moves.{width_for, barred, pair_route, route_out, out_rows, old_form_checks, row_back, back_rows}
-use Rattle.rfc.proofs.Numbers.{none_first, first_front, first_behind, Clear, clear_front, clear_behind}
+use Rattle.rfc.specs.Moves.{width_for, barred, pair_route, route_out, pair_out, out_rows, old_form_checks, row_back, back_rows}
+use Rattle.rfc.proofs.Numbers.{here, refuses, Clear, done, next, clears, given_no, first_is, none_first, first_behind, refuses_front, clear_front, clear_behind}
 use Rattle.rfc.proofs.Strung.{checks_more, bytes_more}
-use Rattle.rfc.proofs.Moves.{old_18, old_19, old_none, out_18, out_0, out_length, out_alike, out_route, out_more, back_more, back-rows, back_bytes, back_checks}
-use Rattle.laying.specs.Passes.{State, measured, gauged, put}
+use Rattle.rfc.proofs.Moves.{old_18, old_19, old_none, out_none, back_more, back-rows, back_bytes, back_checks}
+use Rattle.refusal.specs.declared.Refusal.{Refusal}
+use Rattle.refusal.specs.declared.Refusal.TheVariants.{DestinationBarred, NoOldForm}
+use Rattle.refusal.specs.Told.{refusal_of}
+use Rattle.laying.specs.Passes.{State, row_of, measured, gauged, put}
 use Rattle.laying.specs.declared.Pass.{Pass}
-use Rattle.laying.proofs.Passes.{measured_same, measured_stops}
-use Rattle.laying.proofs.Rows.{none_gauged}
-use Rattle.classless.specs.declared.ReadRoute.{ReadRoute}
-use Rattle.classless.proofs.Rows.{NextRow}
-use Rattle.moves.specs.Rows.{route_of, back_number}
+use Rattle.laying.proofs.Passes.{measured_stops, row_bad, row_good, row_refused, row_alike}
+use Rattle.laying.proofs.Measured.{none_gauged}
+use Rattle.classless.specs.Rows.{told_by, there, route_of}
+use Rattle.classless.specs.declared.Row.{Row}
+use Rattle.classless.proofs.Rows.{Ahead, ends, stops, goes, ahead}
+use Rattle.moves.specs.Rows.{old_row}
 
--- the number of a row that is to be moved back, test by test
-module _ (row : ReadRoute) where
-  pub number_own : 0 < row.refused → back_number row ≡ row.refused
-  unfolding back_number
-  number_own h = rw (lt-ltb 0 row.refused h)
+-- a route that is moved out, by its destination
+module _ (r : rfc.Route) where
+  pub out_barred : barred r.destination ≡ true → row_of (route_out r) ≡ Err DestinationBarred
+  unfolding route_out refusal_of
+  out_barred e = row_bad (route_out r) 18 (first_is (here e)) (lit< tt)
 
-  module _ (h : row.refused ≤ 0) where
-    of_move : (k : ℕ) → first_refusal (old_form_checks (route_of row)) ≡ k → back_number row ≡ k
-    unfolding back_number
-    of_move k e = rw (le-ltb 0 row.refused h) e
+  pub out_free : (n : ℕ) → barred r.destination ≡ false → n ≡ length (route_bytes r) → row_of (route_out r) ≡ Ok n
+  unfolding route_out
+  out_free n e l = row_good (route_out r) n (omega (arith, none_first (next {n = 18} e done))) l
 
-    pub number_18 : barred row.destination ≡ true → back_number row ≡ 18
-    number_18 e = of_move 18 (old_18 (route_of row) e)
+  -- and one that is moved back
+  pub old_barred : barred r.destination ≡ true → row_of (old_row r) ≡ Err DestinationBarred
+  unfolding old_row refusal_of
+  old_barred e = row_bad (old_row r) 18 (old_18 r e) (lit< tt)
 
-    module _ (free : barred row.destination ≡ false) where
-      pub number_19 : (width_for row.destination ≡ row.width → ⊥) → back_number row ≡ 19
-      number_19 e = of_move 19 (old_19 (route_of row) free e)
+  module _ (free : barred r.destination ≡ false) where
+    pub old_other : (width_for r.destination ≡ r.width → ⊥) → row_of (old_row r) ≡ Err NoOldForm
+    unfolding old_row refusal_of
+    old_other e = row_bad (old_row r) 19 (old_19 r free e) (lit< tt)
 
-      pub number_none : width_for row.destination ≡ row.width → back_number row ≡ 0
-      number_none e = of_move 0 (old_none (route_of row) free e)
+    pub old_free : width_for r.destination ≡ r.width → row_of (old_row r) ≡ Ok 8
+    unfolding old_row
+    old_free e = row_good (old_row r) 8 (omega (arith, old_none r free e)) refl
 
--- a pair that is to be moved out, measured
-module _ (p : Pass) (d router : ℕ) where
-  abbrev pair_made : RowMade
-  pair_made = route_out (pair_route d router)
+-- four bytes are their first four
+four_all : (l : List ℕ) → length l ≡ 4 → take 4 l ≡ l
+four_all l e = ap (λ (n : ℕ). take n l) (sym e) ∙ take-length l
 
-  pub gauged_18 : (n : ℕ) → barred d ≡ true → measured p 18 n ≡ gauged p pair_made
-  gauged_18 n e =
-      measured_same p 18 n (length pair_made.bytes) (lit< tt)
-      ∙ ap (λ (k : ℕ). measured p k (length pair_made.bytes)) (sym (out_18 d router e))
-
-  pub gauged_bytes : (n : ℕ) → barred d ≡ false → n ≡ min 4 (significant (width_for d)) → measured p 0 (1 + n + 4) ≡ gauged p pair_made
-  gauged_bytes n e is = λ i. measured p (sym (out_0 d router e) i) (sym (out_length d router n is) i)
-
-  -- whatever its router is
-  any_router : (other : ℕ) → gauged p pair_made ≡ gauged p (route_out (pair_route d other))
-  any_router other =
-      let n : ℕ = min 4 (significant (width_for d)) in
-      let e : length pair_made.bytes ≡ length (route_out (pair_route d other)).bytes =
-      out_length d router n refl ∙ sym (out_length d other n refl) in
-      λ i. measured p (first_refusal (out_alike d router other i)) (e i)
+-- a pair, read
+pub pair_read : (p : List ℕ) → length p ≡ 8 → (d g w : ℕ) → d ≡ number_at 4 p 0 → g ≡ number_at 4 p 4 → w ≡ width_for d
+    → record { width = w; destination = d; gateway = g } ≡ pair_route (number (take 4 p)) (number (drop 4 p))
+unfolding pair_route
+pair_read p eight d g w to via rule =
+    let long : length (drop 4 p) ≡ 4 = omega (arith, length-drop 4 p) in
+    let first : d ≡ number (take 4 p) = to ∙ number_there 4 p 0 (omega arith) in
+    let second : g ≡ number (drop 4 p) = via ∙ number_there 4 p 4 (omega arith) ∙ ap number (four_all (drop 4 p) long) in
+    (λ i. record { width = (rule ∙ ap width_for first) i; destination = first i; gateway = second i })
 
 -- one pair of a value
-module _ (v : List ℕ) (at : ℕ) (h : at + 8 ≤ length v) (d : ℕ) (is : d ≡ number_at 4 v at) where
-  pub out_gauged : (p q : Pass) → q ≡ gauged p (route_out (pair_route d 0))
-      → foldl gauged q (out_rows (drop (at + 8) v)) ≡ foldl gauged p (out_rows (drop at v))
-  out_gauged p q e =
-      let behind : List RowMade = out_rows (drop (at + 8) v) in
-      ap (λ (x : Pass). foldl gauged x behind)
-      (e ∙ any_router p d 0 (number_at 4 v (at + 4)) ∙ ap (λ (k : ℕ). gauged p (route_out (pair_route k (number_at 4 v (at + 4))))) is)
-      ∙ ap (foldl gauged p) (sym (out_more v at h))
+module _ (p rest : List ℕ) (eight : length p ≡ 8) where
+  abbrev route : rfc.Route
+  route = pair_route (number (take 4 p)) (number (drop 4 p))
 
-  pub out_put : (s t : State) (w g : ℕ) → w ≡ width_for d → g ≡ number_at 4 v (at + 4)
-      → t ≡ foldl put s (route_bytes (record { width = w; destination = d; gateway = g }))
-      → foldl put t (all_bytes (out_rows (drop (at + 8) v))) ≡ foldl put s (all_bytes (out_rows (drop at v)))
-  out_put s t w g rule via e =
-      let behind : List RowMade = out_rows (drop (at + 8) v) in
-      let there : RowMade = route_out (pair_route (number_at 4 v at) (number_at 4 v (at + 4))) in
-      let same : route_bytes (record { width = w; destination = d; gateway = g }) ≡ there.bytes =
-      out_route d g w rule ∙ (λ i. (route_out (pair_route (is i) (via i))).bytes) in
-      ap (λ (x : State). foldl put x (all_bytes behind)) (e ∙ ap (foldl put s) same)
-      ∙ sym (foldl-append put s there.bytes (all_bytes behind))
-      ∙ ap (foldl put s) (sym (ap all_bytes (out_more v at h) ∙ bytes_more there behind))
+  out_front : out_rows (p ++ rest) ≡ route_out route ∷ out_rows rest
+  unfolding out_rows pair_out size_of sizes
+  out_front =
+      let t : take 8 (p ++ rest) ≡ p = ap (λ (n : ℕ). take n (p ++ rest)) (sym eight) ∙ take-append_seam p rest in
+      let d : drop 8 (p ++ rest) ≡ rest = ap (λ (n : ℕ). drop n (p ++ rest)) (sym eight) ∙ drop-append_seam p rest in
+      ap (map pair_out) (pieces_more 8 (lit< tt) (p ++ rest) (omega (arith, length-append p rest)))
+      ∙ (λ i. pair_out (t i) ∷ map pair_out (pieces 8 (d i)))
 
--- one row of a value that is moved back
-module _ (v : List ℕ) (at : ℕ) (answer : ReadRoute) (next : NextRow v at answer) where
-  abbrev r : RouteRow
-  r = next.row
+  pub out_gauged : (s t : Pass) → t ≡ measured s (row_of (route_out route))
+      → foldl gauged t (out_rows rest) ≡ foldl gauged s (out_rows (p ++ rest))
+  out_gauged s t e = ap (λ (x : Pass). foldl gauged x (out_rows rest)) e ∙ ap (foldl gauged s) (sym out_front)
 
-  abbrev m : RowMade
-  m = row_back r
+  pub out_put : (s t : State) → t ≡ foldl put s (route_bytes route)
+      → foldl put t (all_bytes (out_rows rest)) ≡ foldl put s (all_bytes (out_rows (p ++ rest)))
+  unfolding route_out
+  out_put s t e =
+      ap (λ (x : State). foldl put x (all_bytes (out_rows rest))) e
+      ∙ sym (foldl-append put s (route_bytes route) (all_bytes (out_rows rest)))
+      ∙ ap (foldl put s) (sym (ap all_bytes out_front ∙ bytes_more (route_out route) (out_rows rest)))
 
-  here_rows : back_rows (drop at v) ≡ m ∷ map row_back next.more
-  here_rows = back_more next.more r (drop at v) next.rows
+-- no whole pair is none
+pub out_done : (rest : List ℕ) → length rest < 8 → length rest % 8 ≡ 0 → out_rows rest ≡ []
+out_done [] h e = out_none
+out_done (x ∷ rest) h e = absurd (omega arith)
 
-  eight : length m.bytes ≡ 8
-  eight = ap length (back_bytes r)
+-- a row of a value that is moved back, by what the reader answers
+module _ (v : List ℕ) (at : ℕ) (short : length v ≤ most_bytes) (within : at ≤ length v) where
+  abbrev now : List RowMade
+  now = back_rows (drop at v)
 
-  -- the row's number is that of its checks and of its move
-  number_is : first_refusal m.checks ≡ back_number answer
-  number_is = go (dec_le answer.refused 0)
+  -- nothing more
+  pub back_ends : told_by there (Ok None) ≡ route_from v at → now ≡ []
+  back_ends e = go (ahead v at short (Ok None) e within)
     where
-      go : Dec (answer.refused ≤ 0) → first_refusal m.checks ≡ back_number answer
-      go (yes h) =
-          let route : r.route ≡ route_of answer = sym (ap route_of (next.is h)) in
-          ap first_refusal (back_checks r)
-          ∙ first_behind r.checks (old_form_checks r.route) (next.clear h)
-          ∙ ap (λ (x : Route). first_refusal (old_form_checks x)) route
-          ∙ sym (of_move answer h _ refl)
-      go (no h) =
-          ap first_refusal (back_checks r)
-          ∙ first_front r.checks (old_form_checks r.route) (omega (arith, next.number))
-          ∙ sym next.number ∙ sym (number_own answer (omega arith))
+      go : Ahead v at (Ok None) → now ≡ []
+      go (ends rows) = sym (back-rows (drop at v)) ∙ ap (map row_back) rows
 
-  gauged_here : (p q : Pass) → q ≡ measured p (back_number answer) 8 → q ≡ gauged p m
-  gauged_here p q e = e ∙ (λ i. measured p (sym number_is i) (sym eight i))
+  -- a refusal: behind it no row is measured
+  module _ (f : Refusal) (e : told_by there (Err f) ≡ route_from v at) where
+    pub back_stops : (s t : Pass) → t ≡ measured s (Err f) → t ≡ foldl gauged s now
+    back_stops s t m = go (ahead v at short (Err f) e within)
+      where
+        go : Ahead v at (Err f) → t ≡ foldl gauged s now
+        go (stops row more rows k r says-k) =
+            let own : row_of (row_back row) ≡ Err f =
+            row_refused (row_back row) f k (rw (back_checks row) (refuses_front (old_form_checks row.route) r)) says-k in
+            sym (none_gauged (map row_back more) t (rw m (measured_stops s f)))
+            ∙ ap (λ (x : Pass). foldl gauged x (map row_back more)) (m ∙ ap (measured s) (sym own))
+            ∙ ap (foldl gauged s) (sym (back_more more row (drop at v) rows))
 
-  pub back_stops : (p q : Pass) → 0 < answer.refused → q ≡ measured p (back_number answer) 8 → q ≡ foldl gauged p (back_rows (drop at v))
-  back_stops p q h e =
-      let stopped : 0 < q.refusal =
-      rw e (measured_stops p (back_number answer) 8 (rw (number_own answer h) h)) in
-      sym (none_gauged (map row_back next.more) q stopped)
-      ∙ ap (λ (x : Pass). foldl gauged x (map row_back next.more)) (gauged_here p q e)
-      ∙ ap (foldl gauged p) (sym here_rows)
+    pub never_clear : Clear (all_checks now) → ⊥
+    never_clear c = go (ahead v at short (Err f) e within)
+      where
+        go : Ahead v at (Err f) → ⊥
+        go (stops row more rows k r says-k) =
+            let all : Clear (row_back row).checks =
+            clear_front (row_back row).checks (all_checks (map row_back more))
+            (rw (ap all_checks (back_more more row (drop at v) rows) ∙ checks_more (row_back row) (map row_back more)) at c) in
+            let own : Clear row.checks = clear_front row.checks (old_form_checks row.route) (rw (back_checks row) at all) in
+            given_no k k (sym (clears (given k) own) ∙ refuses (given k) r)
 
-  module _ (h : answer.refused ≤ 0) where
-    behind_rows : map row_back next.more ≡ back_rows (drop answer.place v)
-    behind_rows = ap (map row_back) (next.on h) ∙ back-rows (drop answer.place v)
+  -- a row
+  module _ (next : Row) (e : told_by there (Ok (Some next)) ≡ route_from v at) where
+    abbrev behind : List RowMade
+    behind = back_rows (drop next.place v)
 
-    pub back_goes : (p q : Pass) → q ≡ measured p (back_number answer) 8
-        → foldl gauged q (back_rows (drop answer.place v)) ≡ foldl gauged p (back_rows (drop at v))
-    back_goes p q e =
-        ap (foldl gauged q) (sym behind_rows)
-        ∙ ap (λ (x : Pass). foldl gauged x (map row_back next.more)) (gauged_here p q e)
-        ∙ ap (foldl gauged p) (sym here_rows)
+    pub record Onward : Type 0 where
+      pub far : (at < next.place) × (next.place ≤ length v)
+      pub measures : (s t : Pass) → t ≡ measured s (row_of (old_row (route_of next.route))) → foldl gauged t behind ≡ foldl gauged s now
+      pub clear : Clear (all_checks now) → Clear (all_checks behind)
+      pub puts : (s t : State) → t ≡ foldl put s (digits 4 next.route.destination ++ digits 4 next.route.gateway)
+          → foldl put t (all_bytes behind) ≡ foldl put s (all_bytes now)
 
-    pub back_put : (s t : State) → t ≡ foldl put s (digits 4 answer.destination ++ digits 4 answer.gateway)
-        → foldl put t (all_bytes (back_rows (drop answer.place v))) ≡ foldl put s (all_bytes (back_rows (drop at v)))
-    back_put s t e =
-        let behind : List ℕ = all_bytes (map row_back next.more) in
-        let here-bytes : List ℕ = digits 4 answer.destination ++ digits 4 answer.gateway in
-        let same : here-bytes ≡ m.bytes =
-        ap (λ (x : ReadRoute). digits 4 x.destination ++ digits 4 x.gateway) (next.is h) ∙ sym (back_bytes r) in
-        ap (λ (l : List RowMade). foldl put t (all_bytes l)) (sym behind_rows)
-        ∙ ap (λ (x : State). foldl put x behind) (e ∙ ap (foldl put s) same)
-        ∙ sym (foldl-append put s m.bytes behind)
-        ∙ ap (foldl put s) (sym (ap all_bytes here_rows ∙ bytes_more m (map row_back next.more)))
-
-  -- where all rows move back, this one does, and so do those behind it
-  pub clear_on : Clear (all_checks (back_rows (drop at v))) → (answer.refused ≤ 0) × Clear (all_checks (back_rows (drop answer.place v)))
-  clear_on c =
-      let all : Clear (m.checks ++ all_checks (map row_back next.more)) =
-      rw (ap all_checks here_rows ∙ checks_more m (map row_back next.more)) at c in
-      let none : first_refusal m.checks ≡ 0 = none_first (clear_front m.checks (all_checks (map row_back next.more)) all) in
-      let own = clear_own (rw (back_checks r) at (clear_front m.checks (all_checks (map row_back next.more)) all)) in
-      (own, rw (← behind_rows own) (clear_behind m.checks all))
-    where
-      clear_own : Clear (r.checks ++ old_form_checks r.route) → answer.refused ≤ 0
-      clear_own x = omega (arith, next.number, none_first (clear_front r.checks (old_form_checks r.route) x))
+    pub back_goes : Onward
+    unfolding old_row
+    back_goes = go (ahead v at short (Ok (Some next)) e within)
+      where
+        go : Ahead v at (Ok (Some next)) → Onward
+        go (goes row rows clear is on to) =
+            let m : RowMade = row_back row in
+            let all : now ≡ m ∷ behind =
+            back_more (route_rows (drop next.place v)) row (drop at v) rows
+            ∙ ap (λ (ms : List RowMade). m ∷ ms) (back-rows (drop next.place v)) in
+            let bytes : m.bytes ≡ digits 4 next.route.destination ++ digits 4 next.route.gateway =
+            back_bytes row ∙ ap (λ (r : rfc.Route). digits 4 r.destination ++ digits 4 r.gateway) is in
+            let checks : first_refusal m.checks ≡ first_refusal (old_form_checks (route_of next.route)) =
+            ap first_refusal (back_checks row)
+            ∙ first_behind row.checks (old_form_checks row.route) clear
+            ∙ ap (λ (r : rfc.Route). first_refusal (old_form_checks r)) is in
+            let own : row_of m ≡ row_of (old_row (route_of next.route)) = row_alike m (old_row (route_of next.route)) checks (ap length bytes) in
+            record {
+              far = (on, to);
+              measures = λ s t f. ap (λ (x : Pass). foldl gauged x behind) (f ∙ ap (measured s) (sym own)) ∙ ap (foldl gauged s) (sym all);
+              clear = λ c. clear_behind m.checks (rw (ap all_checks all ∙ checks_more m behind) at c);
+              puts = λ s t f. ap (λ (x : State). foldl put x (all_bytes behind)) (f ∙ ap (foldl put s) (sym bytes))
+                  ∙ sym (foldl-append put s m.bytes (all_bytes behind))
+                  ∙ ap (foldl put s) (sym (ap all_bytes all ∙ bytes_more m behind));
+            }

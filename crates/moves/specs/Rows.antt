@@ -1,15 +1,33 @@
--- The number that refuses a row which is to be moved back.
+-- What is made of a route that is moved back, and that the checks of every row have numbers that a refusal has.
 -- Assumes nothing.
-use Rattle.std.specs.Prelude.{ℕ, cond, ltb}
-use Rattle.rfc.specs.Numbers.{first_refusal}
+use Rattle.std.specs.Prelude.{ℕ, zero, suc, List, [], ◌∷◌, ◌++◌, map, drop, length, refl}
+use Rattle.facts.specs.BigEndian.{digits}
+use Rattle.facts.specs.Pieces.{pieces}
+use Rattle.rfc.specs.Kinds.{size_of}
 use Rattle.rfc.specs.Routes.{Route}
-use Rattle.rfc.specs.Moves.{old_form_checks}
-use Rattle.classless.specs.declared.ReadRoute.{ReadRoute}
+use Rattle.rfc.specs.Classless.{row_checks, behind_width, route_rows, route_rows_in}
+use Rattle.rfc.specs.Strung.{RowMade}
+use Rattle.rfc.specs.Moves.{route_out, pair_out, out_rows, old_form_checks, row_back, back_rows}
+use Rattle.refusal.specs.Told.{refusal_of}
+use Rattle.laying.specs.Passes.{EachKnown}
 
--- a row that was read, as a route
-abbrev pub route_of : ReadRoute → Route
-route_of row = record { width = row.width; destination = row.destination; gateway = row.gateway }
+-- a row of option 121 by its route alone, moved back
+unfoldable pub old_row : Route → RowMade
+old_row r = record { checks = old_form_checks r; bytes = digits 4 r.destination ++ digits 4 r.gateway }
 
--- that of the row itself, or of its move
-unfoldable pub back_number : ReadRoute → ℕ
-back_number row = cond (ltb 0 row.refused) row.refused (first_refusal (old_form_checks (route_of row)))
+pub out_known : (v : List ℕ) → EachKnown (out_rows v)
+unfolding out_rows pair_out route_out refusal_of
+out_known v = go (pieces (size_of 3) v)
+  where
+    go : (ps : List (List ℕ)) → EachKnown (map pair_out ps)
+    go [] = tt
+    go (p ∷ ps) = ((refl, tt), go ps)
+
+pub back_known : (v : List ℕ) → EachKnown (back_rows v)
+unfolding back_rows row_back old_form_checks row_checks route_rows route_rows_in refusal_of
+back_known v = go (length v) v
+  where
+    go : (k : ℕ) (v : List ℕ) → EachKnown (map row_back (route_rows_in k v))
+    go zero v = tt
+    go (suc k) [] = tt
+    go (suc k) (width ∷ rest) = ((refl, (refl, (refl, (refl, tt)))), go k (drop (behind_width width) rest))

@@ -3,20 +3,19 @@
 // stands in between.
 #![tactic(auto)]
 
-ghost use Rattle.std.specs.Prelude.{◌≡◌, ◌%◌, ◌≤◌, length};
+ghost use Rattle.std.specs.Prelude.{◌≡◌, ◌%◌, ◌≤◌, length, take, drop};
 ghost use mathlib.Core.List.{◌++◌, foldl};
-ghost use Rattle.facts.specs.BigEndian.{digits};
-ghost use Rattle.rfc.specs.Numbers.{given};
-ghost use Rattle.rfc.specs.Strung.{all_bytes};
+ghost use Rattle.facts.specs.BigEndian.{digits, number};
 ghost use Rattle.rfc.specs.Moves as rfc;
 ghost use Rattle.encoder.specs.Written.{Wrote};
-ghost use Rattle.laying.specs.Passes.{gauged, put};
-ghost use Rattle.moves.specs.Rows.{back_number};
+ghost use Rattle.laying.specs.Passes.{row_of, put};
+ghost use Rattle.classless.specs.Rows.{route_of};
+ghost use Rattle.moves.specs.Rows.{old_row, out_known, back_known};
 
-use classless::{ROUTES_CODE, ReadRoute};
-use encoder::Written;
-use laying::{ADDRESS, Pass};
+use classless::{MOST_WIDTH, ROUTES_CODE, Route};
+use laying::{ADDRESS, Pass, Rows};
 use limits::{MOST_BYTES, MOST_PART};
+use refusal::Refusal;
 
 // The code of static routes.
 const PAIRS_CODE: u8 = 33;
@@ -30,177 +29,162 @@ const PAIRS_PART: u8 = 248;
 const FIRST: u32 = 16777216;
 
 // Writes the pairs of `value`, of option 33, as option 121.
-pub fn move_out(room: &mut [u8], place: usize, value: &[u8]) -> Written
+pub fn move_out(room: &mut [u8], place: usize, value: &[u8]) -> Result<usize, Refusal>
     ensures { Wrote (rfc.move_out value.now room.old place)
         room.old room.new place result }
 {
-    let n = room.len();
     if value.len() > MOST_BYTES {
-        return Written::Refused(2);
+        return Err(Refusal::TooLong);
     }
-    let start = laying::begin(n, place, ROUTES_CODE, MOST_PART as u8);
-    if start.refusal > 0 {
-        return laying::answer(start);
+    let start = Pass::begin(room.len(), place, ROUTES_CODE, MOST_PART as u8);
+    if let Some(refusal) = start.refusal {
+        return Err(refusal);
     }
     if value.len() % PAIR > 0 {
-        return Written::Refused(10);
+        return Err(Refusal::WrongLength);
     }
-    let measured = measure_out(start, value);
-    let turned = laying::turn_over(measured, n);
-    if turned.refusal > 0 {
-        return laying::answer(turned);
-    }
-    let written = put_out(room, turned, value);
-    laying::answer(written)
+    start.lay(room, &Pairs { value })
 }
 
 // Writes the routes of `value`, of option 121, as option 33.
-pub fn move_back(room: &mut [u8], place: usize, value: &[u8]) -> Written
+pub fn move_back(room: &mut [u8], place: usize, value: &[u8]) -> Result<usize, Refusal>
     ensures { Wrote (rfc.move_back value.now room.old place)
         room.old room.new place result }
 {
-    let n = room.len();
     if value.len() > MOST_BYTES {
-        return Written::Refused(2);
+        return Err(Refusal::TooLong);
     }
-    let start = laying::begin(n, place, PAIRS_CODE, PAIRS_PART);
-    if start.refusal > 0 {
-        return laying::answer(start);
-    }
-    let measured = measure_back(start, value);
-    let turned = laying::turn_over(measured, n);
-    if turned.refusal > 0 {
-        return laying::answer(turned);
-    }
-    let written = put_back(room, turned, value);
-    laying::answer(written)
+    let start = Pass::begin(room.len(), place, PAIRS_CODE, PAIRS_PART);
+    start.lay(room, &Routes { value })
 }
 
-// Measures all pairs of `value`.
-fn measure_out(start: Pass, value: &[u8]) -> Pass
-    requires { length value.now % 8 ≡ 0 }
-    ensures { result ≡ foldl gauged start (rfc.out_rows value.now) }
-{
-    let mut pass = start;
-    let mut at: usize = 0;
-    while at < value.len() {
-        pass = measure_pair(pass, decoder::u32_at(value, at));
-        at += PAIR;
-    }
-    pass
+// The pairs of a value of option 33, each moved to a route.
+#[derive(Clone, Copy)]
+struct Pairs<'a> {
+    value: &'a [u8],
+    ghost whole: { length value.now % 8 ≡ 0 },
 }
 
-// Measures a pair. Its router says nothing of that.
-fn measure_pair(pass: Pass, destination: u32) -> Pass
-    ensures { result ≡ gauged pass (rfc.route_out (rfc.pair_route destination 0)) }
-{
-    if is_barred(destination) {
-        return laying::measure(pass, 18, 0);
-    }
-    let width = width_for(destination);
-    laying::measure(
-        pass,
-        0,
-        (1 + classless::significant(width) + ADDRESS) as u16,
-    )
-}
+impl Rows for Pairs<'_> {
+    ghost rows = { λ p. rfc.out_rows p.value.now };
 
-// Puts all pairs of `value`, each as a route.
-fn put_out(room: &mut [u8], start: Pass, value: &[u8]) -> Pass
-    requires { length value.now % 8 ≡ 0 }
-    ensures { (result, room.new) ≡ foldl put (start, room.old) (all_bytes (rfc.out_rows value.now)) }
-{
-    let mut pass = start;
-    let mut at: usize = 0;
-    while at < value.len() {
-        let destination = decoder::u32_at(value, at);
-        let gateway = decoder::u32_at(value, at + ADDRESS);
-        pass = classless::put_route(room, pass, width_for(destination), destination, gateway);
-        at += PAIR;
-    }
-    pass
-}
+    ghost known = { λ p. out_known p.value.now };
 
-// Measures all routes of `value`. Behind a row that is cut or too wide no other begins.
-fn measure_back(start: Pass, value: &[u8]) -> Pass
-    requires { length value.now ≤ 65535 }
-    ensures { result ≡ foldl gauged start (rfc.back_rows value.now) }
-{
-    let mut pass = start;
-    let mut at: usize = 0;
-    while at < value.len() {
-        let row = classless::route_from(value, at);
-        pass = laying::measure(pass, back_number(row), PAIR as u16);
-        if row.refused > 0 {
-            return pass;
+    fn measure(&self, mut pass: Pass) -> Pass {
+        for pair in self.value.chunks_exact(PAIR) {
+            pass = pass.measure(measured_out(moved(pair)));
         }
-        at = row.place;
+        pass
     }
-    pass
+
+    fn put(&self, room: &mut [u8], mut pass: Pass) -> Pass {
+        for pair in self.value.chunks_exact(PAIR) {
+            pass = classless::put_route(room, pass, moved(pair));
+        }
+        pass
+    }
 }
 
-// The number that refuses a row which is to be moved back, 0 for none.
-fn back_number(row: ReadRoute) -> u8
-    ensures { result ≡ back_number row }
-{
-    if row.refused > 0 {
-        return row.refused;
-    }
-    if is_barred(row.destination) {
-        return 18;
-    }
-    if width_for(row.destination) != row.width {
-        return 19;
-    }
-    0
+// The routes of a value of option 121, each moved to a pair.
+#[derive(Clone, Copy)]
+struct Routes<'a> {
+    value: &'a [u8],
+    ghost short: { length value.now ≤ 65535 },
 }
 
-// Puts all routes of `value`, each as a pair.
-fn put_back(room: &mut [u8], start: Pass, value: &[u8]) -> Pass
-    requires { (length value.now ≤ 65535) × (rfc.backward value.now ≡ given (all_bytes (rfc.back_rows value.now))) }
-    ensures { (result, room.new) ≡ foldl put (start, room.old) (all_bytes (rfc.back_rows value.now)) }
-{
-    let mut pass = start;
-    let mut at: usize = 0;
-    while at < value.len() {
-        let row = classless::route_from(value, at);
-        pass = put_pair(room, pass, row.destination, row.gateway);
-        at = row.place;
+impl Rows for Routes<'_> {
+    ghost rows = { λ r. rfc.back_rows r.value.now };
+
+    ghost known = { λ r. back_known r.value.now };
+
+    // Behind a row that is cut or too wide no other begins.
+    fn measure(&self, mut pass: Pass) -> Pass {
+        let mut at = 0;
+        loop {
+            match classless::route_from(self.value, at) {
+                Ok(Some(row)) => {
+                    pass = pass.measure(measured_back(row.route));
+                    at = row.place;
+                }
+                Ok(None) => return pass,
+                Err(refusal) => return pass.measure(Err(refusal)),
+            }
+        }
     }
-    pass
+
+    fn put(&self, room: &mut [u8], mut pass: Pass) -> Pass {
+        let mut at = 0;
+        while let Ok(Some(row)) = classless::route_from(self.value, at) {
+            pass = put_pair(room, pass, row.route);
+            at = row.place;
+        }
+        pass
+    }
+}
+
+// The route of a pair: a destination and its router.
+fn moved(pair: &[u8]) -> Route
+    requires { length pair.now ≡ 8 }
+    ensures { route_of result ≡ rfc.pair_route (number (take 4 pair.now)) (number (drop 4 pair.now)) }
+{
+    let destination = decoder::u32_at(pair, 0);
+    Route {
+        width: width_for(destination),
+        destination,
+        gateway: decoder::u32_at(pair, ADDRESS),
+    }
+}
+
+// How many bytes a route has that is moved out, where its destination may be.
+#[tactic(auto, using(crate::proofs::Rows::out_barred, crate::proofs::Rows::out_free))]
+fn measured_out(route: Route) -> Result<u16, Refusal>
+    ensures { result ≡ row_of (rfc.route_out (route_of route)) }
+{
+    if is_barred(route.destination) {
+        return Err(Refusal::DestinationBarred);
+    }
+    Ok(route.len())
+}
+
+// How many bytes a route has that is moved back, where it may be: those of a pair.
+#[tactic(auto, using(crate::proofs::Rows::old_barred, crate::proofs::Rows::old_other, crate::proofs::Rows::old_free))]
+fn measured_back(route: Route) -> Result<u16, Refusal>
+    ensures { result ≡ row_of (old_row (route_of route)) }
+{
+    if is_barred(route.destination) {
+        return Err(Refusal::DestinationBarred);
+    }
+    if width_for(route.destination) != route.width {
+        return Err(Refusal::NoOldForm);
+    }
+    Ok(PAIR as u16)
 }
 
 // Puts a destination and its router.
-fn put_pair(room: &mut [u8], pass: Pass, destination: u32, gateway: u32) -> Pass
-    ensures { (result, room.new) ≡ foldl put (pass, room.old) (digits 4 destination ++ digits 4 gateway) }
+fn put_pair(room: &mut [u8], pass: Pass, route: Route) -> Pass
+    ensures { (result, room.new) ≡ foldl put (pass, room.old) (digits 4 route.destination ++ digits 4 route.gateway) }
 {
-    let past_destination = laying::put_address(room, pass, destination, ADDRESS);
-    laying::put_address(room, past_destination, gateway, ADDRESS)
+    pass.put_address(room, route.destination, ADDRESS)
+        .put_address(room, route.gateway, ADDRESS)
 }
 
 // Whether a destination may not be moved: 0.0.0.0, or a first octet above 223.
+#[tactic(auto, unfolding(rfc::specs::Moves::barred))]
 fn is_barred(destination: u32) -> bool
     ensures { result ≡ rfc.barred destination }
 {
-    if destination == 0 {
-        return true;
-    }
-    destination / FIRST > 223
+    destination == 0 || destination / FIRST > 223
 }
 
 // The width that our rule gives a destination.
+#[tactic(auto, using(rfc::proofs::Moves::width_8, rfc::proofs::Moves::not_8, rfc::proofs::Moves::width_16, rfc::proofs::Moves::not_16, rfc::proofs::Moves::width_24, rfc::proofs::Moves::not_24, rfc::proofs::Moves::no_class))]
 fn width_for(destination: u32) -> u8
     ensures { result ≡ rfc.width_for destination }
 {
-    let octet = destination / FIRST;
-    if octet < 128 {
-        return if destination % FIRST == 0 { 8 } else { 32 };
+    match destination / FIRST {
+        0..=127 if destination % FIRST == 0 => 8,
+        128..=191 if destination % 65536 == 0 => 16,
+        192..=223 if destination % 256 == 0 => 24,
+        _ => MOST_WIDTH,
     }
-    if octet < 192 {
-        return if destination % 65536 == 0 { 16 } else { 32 };
-    }
-    if octet < 224 {
-        return if destination % 256 == 0 { 24 } else { 32 };
-    }
-    32
 }

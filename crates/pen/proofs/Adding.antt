@@ -6,10 +6,9 @@ use native.Mathlib.Omega.{arith}
 use mathlib.Core.List.{List, [], ◌∷◌, ◌++◌, foldl-append}
 use mathlib.Core.Bool.{Bool, true, false}
 use lib.Dec.{leb}
-use lib.ListN.{length, drop, get_or, set, length-set}
+use lib.ListN.{length, set, length-set}
 use borrow.Author.Tests.{leb-true, leb-false, lt-ltb, le-ltb, le-leb, lt-leb}
 use Rattle.facts.specs.Over.{over}
-use Rattle.facts.proofs.Folds.{fold_next, fold_end}
 use Rattle.facts.proofs.Over.{over_nil, over_over, set_over}
 use Rattle.rfc.specs.Numbers.{most_bytes}
 use Rattle.pen.specs.Adding.{State, behind, adds, adds_all}
@@ -56,16 +55,6 @@ one s character = refl
 pub both : {t u : State} (s : State) (a b : List ℕ) → t ≡ adds_all s a → u ≡ adds_all t b → u ≡ adds_all s (a ++ b)
 unfolding adds_all
 both s a b e g = g ∙ ap (λ (x : State). adds_all x b) e ∙ sym (foldl-append adds s a b)
-
--- a text character by character: the next one, and the end
-module _ (word : List ℕ) where
-  pub next : (s t : State) (i : ℕ) → i < length word → t ≡ adds s (get_or word i 0) → adds_all t (drop (i + 1) word) ≡ adds_all s (drop i word)
-  unfolding adds_all
-  next s t i h e = fold_next adds word s t i 0 h e
-
-  pub end : (s : State) (i : ℕ) → length word ≤ i → s ≡ adds_all s (drop i word)
-  unfolding adds_all
-  end s i h = fold_end adds word s i h
 
 -- where a text fits in a room, it is written there
 pub fits : (d : List ℕ) (at : ℕ) (text : List ℕ) → length d ≤ most_bytes → at + length text ≤ length d

@@ -1,4 +1,6 @@
+pub mod Added
 pub mod Adding
 pub mod Texts
-pub mod Unique
 pub mod Lengths
+pub mod Measured
+pub mod Unique

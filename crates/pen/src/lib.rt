@@ -2,21 +2,69 @@
 // room that is too small.
 #![tactic(auto)]
 
-ghost use Rattle.std.specs.Prelude.{◌≡◌};
-ghost use Rattle.pen.specs.Texts.{space, decimal, named, spaced};
-ghost use Rattle.pen.specs.Adding.{behind, adds, adds_all};
+ghost use Rattle.std.specs.Prelude.{ℕ, List, ◌≡◌};
+ghost use Rattle.rfc.specs.Writing.{into_room};
+ghost use Rattle.encoder.specs.Written.{Wrote};
+ghost use Rattle.pen.specs.Texts.{decimal, named, spaced};
+ghost use Rattle.pen.specs.Adding.{behind, adds_all};
+ghost use Rattle.pen.specs.Added.{Put, Added};
 
 use limits::MOST_BYTES;
+use refusal::Refusal;
 
-// Adds one character, and answers the place of the next.
-fn put(text: &mut [u8], at: usize, character: u8) -> usize
-    ensures { (text.new, result) ≡ adds (text.old, at) character }
-{
-    if at >= text.len() {
-        return behind(at);
+// A room, and the place of the next character in it.
+#[derive(Drop)]
+pub struct Pen<'a> {
+    pub text: &'a mut [u8],
+    pub at: usize,
+}
+
+impl<'a> Pen<'a> {
+    // Adds one character.
+    fn put(&mut self, character: u8)
+        ensures { Put self.old self.new character }
+    {
+        if self.at < self.text.len() {
+            self.text[self.at] = character;
+        }
+        self.at = behind(self.at);
     }
-    text[at] = character;
-    behind(at)
+
+    // Adds a word.
+    pub fn word(&mut self, word: &[u8])
+        ensures { Added self.old self.new word.now }
+    {
+        for character in word {
+            self.put(*character);
+        }
+    }
+
+    // Adds a number in decimal.
+    pub fn decimal(&mut self, number: usize)
+        ensures { Added self.old self.new (decimal number) }
+    {
+        if number >= 10 {
+            self.decimal(number / 10);
+        }
+        self.put((48 + number % 10) as u8);
+    }
+
+    // Adds a word, and a number behind it.
+    pub fn named(&mut self, word: &[u8], number: usize)
+        ensures { Added self.old self.new (named word.now number) }
+    {
+        self.word(word);
+        self.decimal(number);
+    }
+
+    // Adds bytes, each behind a space.
+    pub fn spaced(&mut self, bytes: &[u8])
+        ensures { Added self.old self.new (spaced bytes.now) }
+    {
+        for byte in bytes {
+            self.named(b" ", *byte as usize);
+        }
+    }
 }
 
 // The place behind a place.
@@ -29,54 +77,43 @@ fn behind(at: usize) -> usize
     at + 1
 }
 
-// Adds a word.
-pub fn put_word(text: &mut [u8], at: usize, word: &[u8]) -> usize
-    ensures { (text.new, result) ≡ adds_all (text.old, at) word.now }
+// What has a text.
+pub trait Show {
+    ghost text: { Self → List ℕ };
+
+    // Adds its text.
+    fn show(&self, pen: &mut Pen)
+        ensures { Added pen.old pen.new (text self.now) };
+}
+
+// Writes a text at `place`.
+pub fn write<T: Show>(room: &mut [u8], place: usize, shown: &T) -> Result<usize, Refusal>
+    ensures { Wrote (into_room (T.text shown.now) room.old place)
+        room.old room.new place result }
 {
-    let mut to = at;
-    let mut i: usize = 0;
-    while i < word.len() {
-        to = put(text, to, word[i]);
-        i += 1;
+    if room.len() > MOST_BYTES {
+        return Err(Refusal::TooLong);
     }
-    to
-}
-
-// Adds a number in decimal.
-pub fn put_decimal(text: &mut [u8], at: usize, number: usize) -> usize
-    ensures { (text.new, result) ≡ adds_all (text.old, at) (decimal number) }
-{
-    if number < 10 {
-        return put(text, at, (48 + number) as u8);
+    if place > room.len() {
+        return Err(Refusal::PastEnd);
     }
-    let to = put_decimal(text, at, number / 10);
-    put(text, to, (48 + number % 10) as u8)
-}
-
-// Adds a word, and a number behind it.
-pub fn put_named(text: &mut [u8], at: usize, word: &[u8], number: usize) -> usize
-    ensures { (text.new, result) ≡ adds_all (text.old, at) (named word.now number) }
-{
-    let to = put_word(text, at, word);
-    put_decimal(text, to, number)
-}
-
-// Adds bytes, each behind a space.
-pub fn put_spaced(text: &mut [u8], at: usize, bytes: &[u8]) -> usize
-    ensures { (text.new, result) ≡ adds_all (text.old, at) (spaced bytes.now) }
-{
-    let mut to = at;
-    let mut i: usize = 0;
-    while i < bytes.len() {
-        to = put_byte(text, to, bytes[i]);
-        i += 1;
+    // Outside a room a text is counted and not written: so it is measured.
+    let mut nowhere = [0u8; 1];
+    let size = show_at(&mut nowhere, 0, shown);
+    if size > room.len() - place {
+        return Err(Refusal::NoRoom);
     }
-    to
+    Ok(show_at(room, place, shown))
 }
 
-// Adds a space and a byte behind it.
-fn put_byte(text: &mut [u8], at: usize, byte: u8) -> usize
-    ensures { (text.new, result) ≡ adds_all (text.old, at) (named space byte) }
+// Adds a text at `place`, and answers the place behind it.
+fn show_at<T: Show>(room: &mut [u8], place: usize, shown: &T) -> usize
+    ensures { (room.new, result) ≡ adds_all (room.old, place) (T.text shown.now) }
 {
-    put_named(text, at, b" ", byte as usize)
+    let mut pen = Pen {
+        text: room,
+        at: place,
+    };
+    shown.show(&mut pen);
+    pen.at
 }

@@ -1,7 +1,8 @@
 -- Back from what an answer tells to the answer.
 -- Assumes nothing.
 use mathlib.Core.Path.{◌≡◌, refl, sym, ap, ◌∙◌}
-use Rattle.std.specs.Prelude.{ℕ, Result, Ok, Err}
+use native.Mathlib.Omega.{arith}
+use Rattle.std.specs.Prelude.{ℕ, zero, suc, ◌<◌, Result, Ok, Err}
 use Rattle.rfc.specs.Numbers.{Answer, given, refused, needs, and_then}
 use Rattle.refusal.specs.declared.Refusal.{Refusal}
 use Rattle.refusal.specs.declared.Refusal.TheVariants.{MessageTooShort, TooLong, ChaddrPastEnd, PastEnd, JoinTooShort, NoSuchCode, ValueTooLong, NoRoom, OtherKind, WrongLength, NotUtf8, WidthAbove32, OddPairs, UnclearYesNo, FieldCut, UnclearOverload, SizeAboveBuffer, DestinationBarred, NoOldForm}
@@ -76,3 +77,15 @@ says_then {A} {B} f = says_as (λ (a : Answer A) (b : Answer B) k len. and_then 
 -- nothing is given
 pub says_given : {A : Type 0} (x : A) (e : Refusal) → says e ≡ given x → ⊥
 says_given {A} x = says_as (λ (a b : Answer A) k len. a ≡ given x → ⊥) (λ k e. cc) (λ n e. cc)
+
+-- the number that a refusal says is that of no other, and not 0
+pub says_number : (e : Refusal) (k : ℕ) → says {A = ℕ} e ≡ refused k → (refusal_of k ≡ e) × (0 < k)
+unfolding back refusal_of
+says_number e k s =
+    let own : Err (refusal_of k) ≡ Err e = sym (ap (back {A = ℕ}) s) ∙ back_says e in
+    let same : refusal_of k ≡ e = cc in
+    (same, go k s same)
+  where
+    go : (k : ℕ) → says {A = ℕ} e ≡ refused k → refusal_of k ≡ e → 0 < k
+    go zero s same = let z : ◌≡◌ {A = Answer ℕ} (refused 19) (refused 0) = ap says same ∙ s in let n : ◌≡◌ {A = ℕ} 19 0 = cc in omega arith
+    go (suc k) s same = omega arith

@@ -3,12 +3,13 @@
 use mathlib.Core.Path.{◌≡◌, refl, sym, ap, ◌∙◌, subst}
 use Prim.Native.Nat.{ℕ, ◌+◌, ◌≤◌, ◌<◌}
 use mathlib.Core.Bool.{true, false}
-use mathlib.Core.List.{List, [], ◌∷◌, ◌++◌, map, foldl}
+use mathlib.Core.List.{List, [], ◌∷◌, ◌++◌, map, foldl, foldl-append}
+use native.Mathlib.Omega.{arith}
 use lib.Dec.{ltb, lit<}
 use lib.ListN.{length}
 use borrow.Author.Tests.{ltb-true, ltb-false, lt-ltb, le-ltb}
-use Rattle.facts.specs.Each.{Each}
-use Rattle.rfc.specs.Numbers.{given, refused, most_bytes, most_part, Check, check, first_refusal}
+use Rattle.std.specs.Prelude.{Result, Ok, Err}
+use Rattle.rfc.specs.Numbers.{given, refused, most_bytes, most_part, Check, check}
 use Rattle.rfc.specs.Writing.{Write, encode}
 use Rattle.facts.specs.Over.{over}
 use Rattle.rfc.specs.Routes as rfc
@@ -17,21 +18,22 @@ use Rattle.rfc.proofs.Numbers.{Refuses, here, later, refuses, Clear, done, next,
 use Rattle.rfc.proofs.Routes.{routes_none, routes_more, wide_none, wide_first, wide_later}
 use Rattle.rfc.proofs.Routes.{routes_2, routes_4, routes_12, routes_7, routes_8, routes_given, routes_left}
 use Rattle.rfc.proofs.Strung.{checks_none, checks_more, bytes_none, bytes_more, Decides}
-use Rattle.encoder.specs.Written.{says, Wrote}
-use Rattle.encoder.specs.declared.Written.{Written}
-use Rattle.laying.specs.Passes.{State, begun, measured, gauged, turned, passed, answered}
+use Rattle.refusal.specs.declared.Refusal.{Refusal}
+use Rattle.refusal.specs.declared.Refusal.TheVariants.{WidthAbove32}
+use Rattle.refusal.specs.Told.{refusal_of}
+use Rattle.laying.specs.Passes.{State, begun, row_of, put, laid}
 use Rattle.laying.specs.declared.Pass.{Pass}
-use Rattle.laying.proofs.Passes.{measured_same}
-use Rattle.laying.proofs.Rows.{Counts}
-use Rattle.laying.proofs.Together.{both_passes as both, from_begun}
-use Rattle.routes.specs.Rows.{row_of, rows_of, made_of, tabled}
-use Rattle.routes.specs.declared.Route.{Route}
+use Rattle.laying.proofs.Passes.{row_bad, row_good}
+use Rattle.laying.proofs.Together.{Done, both_passes}
+use Rattle.classless.specs.Rows.{route_of}
+use Rattle.classless.specs.declared.Route.{Route}
+use Rattle.routes.specs.Rows.{rows_of, made_of, made_known}
 
 rows_none : rows_of [] ≡ []
 unfolding rows_of
 rows_none = refl
 
-rows_more : (r : Route) (rs : List Route) → rows_of (r ∷ rs) ≡ row_of r ∷ rows_of rs
+rows_more : (r : Route) (rs : List Route) → rows_of (r ∷ rs) ≡ route_of r ∷ rows_of rs
 unfolding rows_of
 rows_more r rs = refl
 
@@ -41,8 +43,8 @@ unfolding made_of
 value_is [] = bytes_none ∙ sym (ap rfc.routes_bytes rows_none ∙ routes_none)
 value_is (r ∷ rs) =
     bytes_more (made_of r) (map made_of rs)
-    ∙ ap (λ (l : List ℕ). rfc.route_bytes (row_of r) ++ l) (value_is rs)
-    ∙ sym (ap rfc.routes_bytes (rows_more r rs) ∙ routes_more (row_of r) (rows_of rs))
+    ∙ ap (λ (l : List ℕ). rfc.route_bytes (route_of r) ++ l) (value_is rs)
+    ∙ sym (ap rfc.routes_bytes (rows_more r rs) ∙ routes_more (route_of r) (rows_of rs))
 
 -- one row more
 more_checks : (x : Route) (ms : List RowMade) → all_checks (made_of x ∷ ms) ≡ check (ltb rfc.most_width x.width) 12 ∷ all_checks ms
@@ -59,10 +61,10 @@ Wide rs k = (k ≡ 12) × (rfc.too_wide (rows_of rs) ≡ true)
 wide_more : (x : Route) (rs : List Route) → ((k : ℕ) → Refuses (all_checks (map made_of rs)) k → Wide rs k)
     → (k : ℕ) → Refuses (check (ltb rfc.most_width x.width) 12 ∷ all_checks (map made_of rs)) k → Wide (x ∷ rs) k
 wide_more x rs told k (here e) =
-    (refl, ap rfc.too_wide (rows_more x rs) ∙ wide_first (row_of x) (rows_of rs) (ltb-true rfc.most_width x.width e))
+    (refl, ap rfc.too_wide (rows_more x rs) ∙ wide_first (route_of x) (rows_of rs) (ltb-true rfc.most_width x.width e))
 wide_more x rs told k (later e r) =
     let t = told k r in
-    (t.0, ap rfc.too_wide (rows_more x rs) ∙ wide_later (row_of x) (rows_of rs) (ltb-false rfc.most_width x.width e) ∙ t.1)
+    (t.0, ap rfc.too_wide (rows_more x rs) ∙ wide_later (route_of x) (rows_of rs) (ltb-false rfc.most_width x.width e) ∙ t.1)
 
 wide_is : (rs : List Route) (k : ℕ) → Refuses (all_checks (map made_of rs)) k → Wide rs k
 wide_is [] k r = absurd (none_refuses k (subst (λ (l : List Check). Refuses l k) checks_none r))
@@ -72,25 +74,34 @@ wide_is (x ∷ rs) k r =
 narrow_more : (x : Route) (rs : List Route) → (Clear (all_checks (map made_of rs)) → rfc.too_wide (rows_of rs) ≡ false)
     → Clear (check (ltb rfc.most_width x.width) 12 ∷ all_checks (map made_of rs)) → rfc.too_wide (rows_of (x ∷ rs)) ≡ false
 narrow_more x rs told (next e c) =
-    ap rfc.too_wide (rows_more x rs) ∙ wide_later (row_of x) (rows_of rs) (ltb-false rfc.most_width x.width e) ∙ told c
+    ap rfc.too_wide (rows_more x rs) ∙ wide_later (route_of x) (rows_of rs) (ltb-false rfc.most_width x.width e) ∙ told c
 
 narrow_is : (rs : List Route) → Clear (all_checks (map made_of rs)) → rfc.too_wide (rows_of rs) ≡ false
 narrow_is [] c = ap rfc.too_wide rows_none ∙ wide_none
 narrow_is (x ∷ rs) c = narrow_more x rs (λ d. narrow_is rs d) (subst Clear (more_checks x (map made_of rs)) c)
 
 -- one row is measured
-module _ (p : Pass) (x : Route) where
-  pub wide_gauged : (n : ℕ) → rfc.most_width < x.width → measured p 12 n ≡ gauged p (made_of x)
-  unfolding made_of
-  wide_gauged n h =
-      let e : 12 ≡ first_refusal (made_of x).checks = sym (first_is (here (lt-ltb rfc.most_width x.width h))) in
-      measured_same p 12 n (length (made_of x).bytes) (lit< tt) ∙ ap (λ (k : ℕ). measured p k (length (made_of x).bytes)) e
+module _ (x : Route) where
+  pub wide_row : rfc.most_width < x.width → row_of (made_of x) ≡ Err WidthAbove32
+  unfolding made_of refusal_of
+  wide_row h = row_bad (made_of x) 12 (first_is (here (lt-ltb rfc.most_width x.width h))) (lit< tt)
 
-  pub narrow_gauged : (n : ℕ) → x.width ≤ rfc.most_width → n ≡ length (rfc.route_bytes (row_of x)) → measured p 0 n ≡ gauged p (made_of x)
+  pub narrow_row : (n : ℕ) → x.width ≤ rfc.most_width → n ≡ length (rfc.route_bytes (route_of x)) → row_of (made_of x) ≡ Ok n
   unfolding made_of
-  narrow_gauged n h l =
-      let e : 0 ≡ first_refusal (made_of x).checks = sym (none_first (next (le-ltb rfc.most_width x.width h) done)) in
-      λ i. measured p (e i) (l i)
+  narrow_row n h l = let clear : Clear (check (ltb rfc.most_width x.width) 12 ∷ []) = next (le-ltb rfc.most_width x.width h) done in
+      row_good (made_of x) n (omega (arith, none_first clear)) l
+
+-- and put
+abbrev pub one_put : State → Route → State
+one_put d x = foldl put d (rfc.route_bytes (route_of x))
+
+pub all_put : (rs : List Route) (d : State) → foldl one_put d rs ≡ foldl put d (all_bytes (map made_of rs))
+unfolding made_of
+all_put [] d = ap (foldl put d) (sym bytes_none)
+all_put (x ∷ rs) d =
+    all_put rs (one_put d x)
+    ∙ sym (foldl-append put d (rfc.route_bytes (route_of x)) (all_bytes (map made_of rs)))
+    ∙ ap (foldl put d) (sym (bytes_more (made_of x) (map made_of rs)))
 
 -- so the write of a table is decided by its rows
 module _ (rs : List Route) (room : List ℕ) (place : ℕ) where
@@ -109,24 +120,10 @@ module _ (rs : List Route) (room : List ℕ) (place : ℕ) where
             ∙ ap (λ (v : List ℕ). over room place (encode most_part rfc.routes_code v)) (sym (value_is rs));
       }
 
-  counts : (rs : List Route) → Each Counts (map made_of rs)
-  unfolding made_of
-  counts [] = tt
-  counts (r ∷ rs) = (tt, counts rs)
-
-  -- a pass over the table is one over its rows
-  over_rows : (rs : List Route) (d : State) → foldl tabled d rs ≡ foldl passed d (map made_of rs)
-  over_rows [] d = refl
-  over_rows (r ∷ rs) d = over_rows rs (passed d (made_of r))
-
-  -- what the functions that are called promise, put together
-  pub both_passes : (p₁ p₂ p₃ p₄ : Pass) (room₁ room₂ : List ℕ) (r : Written)
-      → p₁ ≡ begun (length room) place rfc.routes_code most_part → (p₂, room₁) ≡ foldl tabled (p₁, room) rs
-      → p₃ ≡ turned p₂ (length room) → (p₄, room₂) ≡ foldl tabled (p₃, room₁) rs
-      → says r ≡ answered p₄ → Wrote w room room₂ place r
-  both_passes p₁ p₂ p₃ p₄ room₁ room₂ r e₁ e₂ e₃ e₄ e₅ =
-      both w most_part rfc.routes_code (map made_of rs) room place p₁ p₂ p₃ p₄ room₁ room₂ r
-      (rw e₁
-      (from_begun w most_part rfc.routes_code (map made_of rs) room place (lit< tt) (counts rs)
-      (routes_2 (rows_of rs) room place) (routes_4 (rows_of rs) room place) decides))
-      (e₂ ∙ over_rows rs (p₁, room)) e₃ (e₄ ∙ over_rows rs (p₃, room₁)) e₅
+  -- both passes over it
+  pub wrote : (p : Pass) (d : Result ℕ Refusal × List ℕ) → p ≡ begun (length room) place rfc.routes_code most_part
+      → d ≡ laid p (map made_of rs) room → Done w most_part rfc.routes_code (map made_of rs) room place d
+  wrote p d e f =
+      rw f
+      (both_passes w most_part rfc.routes_code (map made_of rs) room place p e
+      (routes_2 (rows_of rs) room place) (routes_4 (rows_of rs) room place) (lit< tt) (made_known rs) decides)

@@ -8,6 +8,7 @@ use Rattle.rfc.specs.Portions.{Portion, whole, portions, joined_value}
 use Rattle.rfc.specs.Aggregate.{fields_of, aggregate, codes_of, options_from}
 use Rattle.rfc.proofs.Listed.{Coded}
 use Rattle.sindovaleph_entries.specs.Rows.{entry_rows}
+use Rattle.sindovaleph_entries.specs.declared.Seen.{Seen}
 
 -- a mark for each code, 0 or 1 more than its row's index; the rows; how many codes there are
 pub record Sheet : Type 0 where
@@ -17,6 +18,10 @@ pub record Sheet : Type 0 where
 
 abbrev pub sheet : List ℕ → List ℕ → ℕ → Sheet
 sheet marks rows codes = record { marks = marks; rows = rows; codes = codes }
+
+-- of the codes that were seen and the lent rows
+abbrev pub sheet_of : Seen → List ℕ → Sheet
+sheet_of seen rows = sheet seen.marks rows seen.codes
 
 -- the first part of a code: its mark, and its row where there is room
 unfoldable pub begins : Sheet → ℕ → ℕ → ℕ → Sheet
@@ -49,11 +54,11 @@ pub record Holds (lent : List ℕ) (ps : List Portion) (s : Sheet) : Type 0 wher
   pub counted : s.codes ≡ length (codes_of ps)
 
 -- a part can be put: its code finds a mark in a byte, and the sums of its row stay small
-pub record Puts (marks rows : List ℕ) (codes code len : ℕ) : Type 0 where
+pub record Puts (s : Sheet) (code len : ℕ) : Type 0 where
   pub lent : List ℕ
   pub before : List Portion
-  pub holds : Holds lent before (sheet marks rows codes)
-  pub small : get_or marks code 0 ≡ 0 → codes < 254
+  pub holds : Holds lent before s
+  pub small : get_or s.marks code 0 ≡ 0 → s.codes < 254
   pub few : length before + length (joined_value before) + len ≤ 4 * most_bytes
 
 -- a row that is there, whose sums stay small
@@ -63,10 +68,10 @@ pub record Extends (rows : List ℕ) (row len : ℕ) : Type 0 where
   pub value : get_or rows (row + 2) 0 + len ≤ 4 * most_bytes
 
 -- so can the parts of a field, which is whole
-pub record Fills (bytes : List ℕ) (start : ℕ) (marks rows : List ℕ) (codes : ℕ) : Type 0 where
+pub record Fills (bytes : List ℕ) (start : ℕ) (s : Sheet) : Type 0 where
   pub lent : List ℕ
   pub before : List Portion
-  pub holds : Holds lent before (sheet marks rows codes)
+  pub holds : Holds lent before s
   pub coded : Coded before
   pub parts : List Portion
   pub uncut : portions start (drop start bytes) ≡ whole parts

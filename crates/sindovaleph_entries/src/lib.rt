@@ -2,16 +2,15 @@
 // over once: a mark for each code says which row is its own.
 #![tactic(auto)]
 
-ghost use Rattle.std.specs.Prelude.{◌+◌, ◌≤◌, ◌≡◌, [], ◌∷◌, length, drop, get_or};
-ghost use Rattle.facts.specs.Over.{over};
+ghost use Rattle.std.specs.Prelude.{◌≡◌, drop, get_or};
 ghost use Rattle.rfc.specs.Portions.{portions, parts_in};
 ghost use Rattle.aggregate.specs.Spanned.{Open};
 ghost use Rattle.sindovaleph_entries.specs.Rows.{ListsEntries};
-ghost use Rattle.sindovaleph_entries.specs.Filling.{sheet, puts, fills, Puts, Fills, FillsAll, extended, Extends};
+ghost use Rattle.sindovaleph_entries.specs.Filling.{sheet_of, puts, fills, Puts, Fills, FillsAll, extended, Extends};
 
 use aggregate::fields;
-use header::{Header, Number};
-use portions::Next;
+use header::Header;
+use portions::Portion;
 
 // What a listing of codes answers: how many codes the message has; as many rows are filled as there are, or as there is room for.
 // `refused` is the number of a refusal, 0 for none: it fills no row.
@@ -28,13 +27,13 @@ pub fn sindovaleph_entries(message: &[u8], rows: &mut [usize]) -> Entries
     ensures { ListsEntries message.now rows.old rows.new result }
 {
     match fields::overload(message) {
-        Number::Refused(number) => Entries {
-            refused: number,
-            codes: 0,
-        },
-        Number::Is(named) => Entries {
+        Ok(named) => Entries {
             refused: 0,
             codes: fill_all(message, named, rows),
+        },
+        Err(refusal) => Entries {
+            refused: refusal.number(),
+            codes: 0,
         },
     }
 }
@@ -45,68 +44,58 @@ fn fill_all(message: &[u8], named: usize, rows: &mut [usize]) -> usize
     ensures { FillsAll message.now rows.old rows.new result }
 {
     let at = fields::spans_of(message, named);
-    let mut marks = [0u8; 256];
-    let options = fill(message, at.options, &mut marks, rows, 0);
-    let file = fill(&message[..at.file], Header::FILE, &mut marks, rows, options);
-    fill(&message[..at.sname], Header::SNAME, &mut marks, rows, file)
+    let mut seen = Seen {
+        marks: [0; 256],
+        codes: 0,
+    };
+    seen.fill(message, at.options, rows);
+    seen.fill(&message[..at.file], Header::FILE, rows);
+    seen.fill(&message[..at.sname], Header::SNAME, rows);
+    seen.codes
 }
 
-// Puts the parts of the field that begins at `start` into their rows, behind `before` codes; answers how many codes there are then.
-fn fill(bytes: &[u8], start: usize, marks: &mut [u8], rows: &mut [usize], before: usize) -> usize
-    requires { Fills bytes.now start marks.old rows.old before }
-    ensures { sheet marks.new rows.new result
-        ≡ fills (sheet marks.old rows.old before) (parts_in (portions start (drop start bytes.now))) }
-{
-    let mut at = start;
-    let mut codes = before;
-    loop {
-        match portions::portion_at(bytes, at) {
-            Next::Ended | Next::Cut => return codes,
-            Next::Part { code, len, place } => {
-                codes = put_part(marks, rows, codes, code, len, place);
-                at = place;
-            }
-        }
-    }
-}
-
-// Puts a part into the row of its code: a new row where it is the first, behind `codes` others, and else the row that its mark says. A
-// code whose row there is no room for is counted all the same.
-fn put_part(
-    marks: &mut [u8],
-    rows: &mut [usize],
+// The codes that were seen: a mark for each, 0 or 1 more than the index of its row, and how many there are.
+#[derive(Drop)]
+struct Seen {
+    marks: [u8; 256],
     codes: usize,
-    code: u8,
-    len: usize,
-    place: usize,
-) -> usize
-    requires { Puts marks.old rows.old codes code len }
-    ensures { sheet marks.new rows.new result
-        ≡ puts (sheet marks.old rows.old codes) code len place }
-{
-    let mark = marks[code as usize] as usize;
-    if mark == 0 {
-        marks[code as usize] = (codes + 1) as u8;
-        if codes < rows.len() / 4 {
-            put_row(rows, 4 * codes, code as usize, 1, len, place);
-        }
-        return codes + 1;
-    }
-    if mark <= rows.len() / 4 {
-        extend_row(rows, 4 * (mark - 1), len, place);
-    }
-    codes
 }
 
-// Puts the four numbers of a row at `row`.
-fn put_row(rows: &mut [usize], row: usize, code: usize, parts: usize, len: usize, place: usize)
-    requires { row + 4 ≤ length rows.old }
-    ensures { rows.new ≡ over rows.old row (code ∷ parts ∷ len ∷ place ∷ []) }
-{
-    rows[row] = code;
-    rows[row + 1] = parts;
-    rows[row + 2] = len;
-    rows[row + 3] = place;
+impl Seen {
+    // Puts the parts of the field that begins at `start` into their rows.
+    fn fill(&mut self, bytes: &[u8], start: usize, rows: &mut [usize])
+        requires { Fills bytes.now start (sheet_of self.old rows.old) }
+        ensures { sheet_of self.new rows.new
+            ≡ fills (sheet_of self.old rows.old) (parts_in (portions start (drop start bytes.now))) }
+    {
+        let mut at = start;
+        while let Some(part) = portions::portion_at(bytes, at).unwrap() {
+            self.put(part, rows);
+            at = part.place;
+        }
+    }
+
+    // Puts a part into the row of its code: a new row where it is the first, behind those of the others, and else the row that its mark
+    // says. A code whose row there is no room for is counted all the same.
+    fn put(&mut self, part: Portion, rows: &mut [usize])
+        requires { Puts (sheet_of self.old rows.old) part.code part.len }
+        ensures { sheet_of self.new rows.new
+            ≡ puts (sheet_of self.old rows.old) part.code part.len part.place }
+    {
+        let mark = self.marks[part.code as usize] as usize;
+        if mark > 0 {
+            if mark <= rows.len() / 4 {
+                extend_row(rows, 4 * (mark - 1), part.len, part.place);
+            }
+            return;
+        }
+        if self.codes < rows.len() / 4 {
+            let row = 4 * self.codes;
+            rows[row..row + 4].copy_from_slice(&[part.code as usize, 1, part.len, part.place]);
+        }
+        self.codes += 1;
+        self.marks[part.code as usize] = self.codes as u8;
+    }
 }
 
 // A further part in the row at `row`. One with no byte is passed by a branch of its own: there may be tens of thousands of them.

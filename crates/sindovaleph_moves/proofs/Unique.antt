@@ -3,6 +3,10 @@
 use mathlib.Core.Path.{sym, ◌∙◌}
 use Rattle.facts.proofs.Unique.{Unique, UniqueLeft}
 use Rattle.crossing.proofs.Carries.{wrote_one}
+use Rattle.sindovaleph_moves.proofs.answers.ReadRouteFromResultRouteRefusal.from.Kinds as index-of-kinds
+use Rattle.sindovaleph_moves.proofs.answers.ReadRouteFromResultRouteRefusal.from.Reads as index-of
+use Rattle.sindovaleph_moves.proofs.answers.RouteCountFromResultUsizeRefusal.from.Kinds as count-of-kinds
+use Rattle.sindovaleph_moves.proofs.answers.RouteCountFromResultUsizeRefusal.from.Reads as count-of
 use Rattle.sindovaleph_moves.proofs.sindovaleph_route_from.Kinds as route-from-kinds
 use Rattle.sindovaleph_moves.proofs.sindovaleph_route_from.Reads as route-from
 use Rattle.sindovaleph_moves.proofs.sindovaleph_route_at.Kinds as route-at-kinds
@@ -13,6 +17,12 @@ use Rattle.sindovaleph_moves.proofs.sindovaleph_move_out.Kinds as move-out-kinds
 use Rattle.sindovaleph_moves.proofs.sindovaleph_move_out.Reads as move-out
 use Rattle.sindovaleph_moves.proofs.sindovaleph_move_back.Kinds as move-back-kinds
 use Rattle.sindovaleph_moves.proofs.sindovaleph_move_back.Reads as move-back
+
+index_of_unique : Unique 0 index-of-kinds.ps index-of-kinds.r index-of.Post
+index_of_unique κs a x y s t p q = p ∙ sym q
+
+count_of_unique : Unique 0 count-of-kinds.ps count-of-kinds.r count-of.Post
+count_of_unique κs a x y s t p q = p ∙ sym q
 
 route_from_unique : Unique 1 route-from-kinds.ps route-from-kinds.r route-from.Post
 route_from_unique κs a x y s t p q = p ∙ sym q

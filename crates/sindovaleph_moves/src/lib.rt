@@ -1,35 +1,37 @@
 // The boundary to programs in Rust and in C, for classless routes that are read, option 121, and for profiles that are moved to them from
-// static routes, option 33, and back. What is read crosses as `classless` has it, and a move answers as every writer does.
+// static routes, option 33, and back. What is read crosses as the structs of `answers`, and a move answers as every writer does.
 #![tactic(auto)]
+
+pub mod answers;
 
 ghost use Rattle.std.specs.Prelude.{◌≡◌};
 ghost use Rattle.rfc.specs.Classless as read;
 ghost use Rattle.rfc.specs.Moves as rfc;
-ghost use Rattle.classless.specs.Rows.{route_here, count_here, index_here};
 ghost use Rattle.crossing.specs.Carried.{Wrote};
+ghost use Rattle.sindovaleph_moves.specs.Crossed.{route_here, count_here, index_here};
 
-use classless::{ReadRoute, RouteCount};
+use answers::{ReadRoute, RouteCount};
 use crossing::answers::Written;
 
 // The row that begins at `place`.
 pub fn sindovaleph_route_from(value: &[u8], place: usize) -> ReadRoute
     ensures { result ≡ route_here place (read.route_from value.now place) }
 {
-    classless::route_from(value, place)
+    ReadRoute::at(place, classless::route_from(value, place))
 }
 
 // The route at `index`.
 pub fn sindovaleph_route_at(value: &[u8], index: usize) -> ReadRoute
     ensures { result ≡ index_here (read.route_at index value.now) }
 {
-    classless::route_at(value, index)
+    ReadRoute::from(classless::route_at(value, index))
 }
 
 // How many routes `value` has.
 pub fn sindovaleph_count_routes(value: &[u8]) -> RouteCount
     ensures { result ≡ count_here (read.read_routes value.now) }
 {
-    classless::count_routes(value)
+    RouteCount::from(classless::count_routes(value))
 }
 
 // The pairs of `value`, of option 33, written as option 121.

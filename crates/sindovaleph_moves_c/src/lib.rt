@@ -4,11 +4,11 @@
 ghost use Rattle.std.specs.Prelude.{◌≡◌};
 ghost use Rattle.rfc.specs.Classless as read;
 ghost use Rattle.rfc.specs.Moves as rfc;
-ghost use Rattle.classless.specs.Rows.{route_here, count_here, index_here};
 ghost use Rattle.crossing.specs.Carried.{Wrote};
+ghost use Rattle.sindovaleph_moves.specs.Crossed.{route_here, count_here, index_here};
 
-use classless::{ReadRoute, RouteCount};
 use crossing::answers::Written;
+use sindovaleph_moves::answers::{ReadRoute, RouteCount};
 
 // The row that begins at `place`.
 #[unsafe(no_mangle)]

@@ -1,16 +1,12 @@
 -- The laws of `specs/Listing.antt`, of one row: its columns, what an option reads as unjoined, and its numbers.
 -- Assumes nothing.
-use mathlib.Core.Path.{◌≡◌, refl, sym, ap, ◌∙◌}
-use Prim.Native.Nat.{ℕ, ◌+◌, ◌-◌, ◌≤◌, ◌<◌}
+use mathlib.Core.Path.{◌≡◌, refl, sym, ap, subst, ◌∙◌}
+use Prim.Native.Nat.{ℕ, ◌-◌, ◌≤◌, ◌<◌}
 use native.Mathlib.Omega.{arith}
 use native.Mathlib.Decide.{dec_le}
-use mathlib.Core.Bool.{Bool}
 use mathlib.Core.List.{List, [], ◌∷◌, ◌++◌}
 use lib.ListN.{length, take, drop, length-drop}
 use lib.Seq.{length-take-le}
-use borrow.Author.Tests.{eq-eqb, ne_eqb}
-use Rattle.facts.specs.Over.{over}
-use Rattle.facts.proofs.Over.{over_over}
 use Rattle.rfc.specs.Numbers.{Answer, given, needs, and_then}
 use Rattle.rfc.specs.Walk.{Found, option, room_for}
 use Rattle.rfc.specs.Values.{Mode, read}
@@ -18,11 +14,17 @@ use Rattle.rfc.specs.Values as rfc
 use Rattle.rfc.proofs.Numbers.{given_goes_on, needs_stands}
 use Rattle.rfc.proofs.Walk.{one_answered, answered, many_needs}
 use Rattle.rfc.proofs.Places.{Stands}
-use Rattle.values.specs.Reading.{mode_of}
-use Rattle.crossing.specs.Carried.{value_of}
-use Rattle.crossing.specs.declared.answers.Value.{Value}
+use Rattle.std.specs.Prelude.{Result, Err}
+use Rattle.refusal.specs.declared.Refusal.{Refusal}
+use Rattle.refusal.specs.declared.Refusal.TheVariants.{JoinTooShort}
+use Rattle.borrowed.specs.declared.answer.Found as here
+use Rattle.values.specs.Reading.{ReadAs}
+use Rattle.values.specs.declared.answer.Value.{Value}
+use Rattle.crossing.specs.Carried.{value_of, reading_here}
+use Rattle.crossing.specs.declared.answers.Value as crossing
+use Rattle.crossing.proofs.Carries.{reading_crosses}
 use Rattle.sindovaleph_rows.specs.Listing.{Columns, found, typed, width, row_of, value_row, read_unjoined}
-use Rattle.sindovaleph_rows.specs.Listing.{bytes_before, Inside, columns_of}
+use Rattle.sindovaleph_rows.specs.Listing.{bytes_before, bytes_of, Inside, row_found}
 
 -- a row has four numbers or more, and as many as it is wide
 pub four : (c : Columns) → 4 ≤ width c
@@ -76,27 +78,29 @@ module _ {area : List ℕ} {len place : ℕ} (i : Inside area len place) where
       unjoined_read mode code (bytes_before area len place) n place (λ g. let e = h g in omega (arith, length_before))
       ∙ ap (read mode code) (sym part_before)
 
-  -- the numbers of a row for them, written at k: four, and four more where it has eight
-  module _ (code n size : ℕ) (strict : Bool) (rows : List ℕ) (k : ℕ) where
-    abbrev first : List ℕ
-    first = code ∷ n ∷ len ∷ place ∷ []
+  -- so it is read, or refused where it would have to be joined
+  pub reads_needs : (mode : Mode) (code n : ℕ) → 1 < n → 0 < len
+      → ReadAs (bytes_before area len place) (read_unjoined mode code (bytes_before area len place) n place) (Err (JoinTooShort len))
+  reads_needs mode code n h g = sym (before_needs mode code n h g)
 
-    abbrev reading : Answer rfc.Value
-    reading = read_unjoined (mode_of strict) code (bytes_before area len place) n place
+  pub reads_part : (mode : Mode) (code n : ℕ) → (1 < n → len ≤ 0) → (r : Result Value Refusal)
+      → ReadAs (take (place - (place - len)) (drop (place - len) area)) (read mode code (take (place - (place - len)) (drop (place - len) area))) r
+      → ReadAs (bytes_before area len place) (read_unjoined mode code (bytes_before area len place) n place) r
+  reads_part mode code n h r t =
+      subst (λ (v : List ℕ). ReadAs v (read_unjoined mode code (bytes_before area len place) n place) r) part_before
+      (subst (λ (a : Answer rfc.Value). ReadAs (take (place - (place - len)) (drop (place - len) area)) a r) (sym (before_reads mode code n h)) t)
 
-    abbrev row : List ℕ
-    row = row_of (columns_of size strict) code (bytes_before area len place) n place
+-- the numbers of an option whose bytes are there are its row: four, and four more for what it reads as
+module _ {area : List ℕ} {f : here.Found} (i : Inside area f.len f.place) where
+  pub row_4 : f.code ∷ f.parts ∷ f.len ∷ f.place ∷ [] ≡ row_found found area f
+  row_4 = ap (λ (k : ℕ). f.code ∷ f.parts ∷ k ∷ f.place ∷ []) (sym (length_before i))
 
-    pub puts_4 : (size ≡ 8 → ⊥) → (r₁ : List ℕ) → r₁ ≡ over rows k first → r₁ ≡ over rows k row
-    unfolding columns_of
-    puts_4 e r₁ p = rw (ne_eqb size 8 e, length_before) p
-
-    pub puts_8 : size ≡ 8 → k + size ≤ length rows → (r₁ : List ℕ) → r₁ ≡ over rows k first
-        → (v : Value) → v ≡ value_of reading → (r₂ : List ℕ) → r₂ ≡ over r₁ (k + 4) (value_row v) → r₂ ≡ over rows k row
-    unfolding columns_of
-    puts_8 e fits r₁ p v q r₂ o =
-        rw (eq-eqb size 8 e, length_before)
-        (o ∙ (λ i. over (p i) (k + 4) (value_row (q i))) ∙ over_over rows k first (value_row (value_of reading)) (omega arith))
+  pub row_8 : (mode : Mode) (r : Result Value Refusal) {v : crossing.Value}
+      → ReadAs (bytes_of area f) (read_unjoined mode f.code (bytes_of area f) f.parts f.place) r → v ≡ reading_here r
+      → f.code ∷ f.parts ∷ f.len ∷ f.place ∷ v.refused ∷ v.kind ∷ v.number ∷ v.count ∷ [] ≡ row_found (typed mode) area f
+  row_8 mode r t e =
+      let is = e ∙ reading_crosses _ _ r t in
+      (λ j. (f.code ∷ f.parts ∷ sym (length_before i) j ∷ f.place ∷ []) ++ value_row (is j))
 
 -- the row of an option that stands in the area is that of the bytes before its place
 module _ (area : List ℕ) (code : ℕ) (v : List ℕ) (n at : ℕ) (s : Stands area code v n at) where

@@ -1,12 +1,18 @@
 -- The options of an area listed in one call, a row of numbers for each.
 -- Assumes nothing.
-use Rattle.std.specs.Prelude.{ℕ, suc, zero, ◌+◌, ◌-◌, ◌/◌, ◌≤◌, ◌≡◌, Bool, cond, List, [], ◌∷◌, ◌++◌, eqb, length, take, drop}
+use Rattle.std.specs.Prelude.{ℕ, suc, zero, ◌+◌, ◌-◌, ◌*◌, ◌/◌, ◌≤◌, ◌≡◌, List, [], ◌∷◌, ◌++◌, length, take, drop}
+use Rattle.std.specs.Prelude.{Option, Some, None, Result, Ok, Err}
 use Rattle.facts.specs.Over.{over}
-use Rattle.rfc.specs.Numbers.{Answer, given, refused, needs, and_then, most_bytes, checked}
-use Rattle.rfc.specs.Walk.{Stop, Found, stop, option, walk, room_for, step_checks}
+use Rattle.rfc.specs.Numbers.{Answer, given, refused, needs, and_then, checked}
+use Rattle.rfc.specs.Walk as walk
+use Rattle.rfc.specs.Walk.{Found, stop, option, walk, room_for, step_checks}
 use Rattle.rfc.specs.Values.{Mode, read}
 use Rattle.rfc.specs.Values as rfc
-use Rattle.values.specs.Reading.{mode_of}
+use Rattle.refusal.specs.declared.Refusal.{Refusal}
+use Rattle.refusal.specs.Told.{number_of}
+use Rattle.borrowed.specs.Walked.{stop_of}
+use Rattle.borrowed.specs.declared.answer.Found as here
+use Rattle.borrowed.specs.declared.answer.Stop.{Stop}
 use Rattle.crossing.specs.Carried.{stop_number, value_of}
 use Rattle.crossing.specs.declared.answers.Value.{Value}
 use Rattle.sindovaleph_rows.specs.declared.listing.Listed.{Listed}
@@ -14,7 +20,7 @@ use Rattle.sindovaleph_rows.specs.declared.listing.Filled.{Filled}
 
 -- how a listing ends: at a stop, or with no room for a further row
 pub data Last : Type 0 where
-  at_stop : Stop → Last
+  at_stop : walk.Stop → Last
   full : Last
 
 -- what is listed: the rows one behind the other, how it ends, and the place where a further call goes on
@@ -84,44 +90,40 @@ pub record Lists (c : Columns) (area : List ℕ) (place : ℕ) (rows rows' : Lis
   pub told : r ≡ listed_of c place (list c area place (length rows))
   pub kept : rows' ≡ rows_after (list c area place (length rows)) rows
 
--- Between the functions of the crate: the len bytes before a place
+-- Between the functions of the crate: the bytes before the place of an option, as many as its value has
 unfoldable pub bytes_before : List ℕ → ℕ → ℕ → List ℕ
 bytes_before area len place = take len (drop (place - len) area)
+
+abbrev pub bytes_of : List ℕ → here.Found → List ℕ
+bytes_of area f = bytes_before area f.len f.place
 
 -- they are there
 pub record Inside (area : List ℕ) (len place : ℕ) : Type 0 where
   pub long : len ≤ place
   pub within : place ≤ length area
 
--- the columns of a row of so many numbers, 4 or 8
-unfoldable pub columns_of : ℕ → Bool → Columns
-columns_of n strict = cond (eqb n 8) (typed (mode_of strict)) found
+-- an option's row, by the numbers that a call found
+abbrev pub row_found : Columns → List ℕ → here.Found → List ℕ
+row_found c area f = row_of c f.code (bytes_of area f) f.parts f.place
 
--- a row has so many numbers
-abbrev pub Wide : ℕ → Bool → Type 0
-Wide n strict = width (columns_of n strict) ≡ n
+-- a row of so many numbers, for an option whose bytes are there
+pub record Fits (n : ℕ) (row : List ℕ) (area : List ℕ) (f : here.Found) : Type 0 where
+  pub wide : length row ≡ n
+  pub inside : Inside area f.len f.place
 
--- a row of so many numbers fits at k, and the len bytes before a place are there
-pub record Fits (rows : List ℕ) (k : ℕ) (area : List ℕ) (len place n : ℕ) (strict : Bool) : Type 0 where
-  pub wide : Wide n strict
-  pub fits : k + n ≤ length rows
-  pub inside : Inside area len place
+-- the number of a stop, 0 for none
+abbrev pub stop_in : Option Stop → ℕ
+stop_in None = 0
+stop_in (Some s) = stop_number (stop_of s)
 
--- rows of so many numbers, and neither 2 nor 4
-pub record Checked (area : List ℕ) (place n : ℕ) (strict : Bool) : Type 0 where
-  pub wide : Wide n strict
-  pub short : length area ≤ most_bytes
-  pub within : place ≤ length area
+-- what crosses of an answer of the code
+abbrev pub listed_here : ℕ → Result Filled Refusal → Listed
+listed_here place (Ok f) = record { refused = 0; stop = stop_in f.stop; rows = f.rows; place = f.place }
+listed_here place (Err e) = record { refused = number_of e; stop = 0; rows = 0; place = place }
 
--- what the lent rows then hold, and how far they are filled
-abbrev pub Left : Type 0
-Left = List ℕ × Filled
-
--- a listing put behind the first k numbers
-unfoldable pub fills_from : List ℕ → ℕ → Listing → Left
-fills_from rows k l =
-    (over rows k l.rows, record { stop = last_number l.last; numbers = k + length l.rows; place = l.place })
-
--- what is answered of rows of so many numbers
-abbrev pub listed_from : ℕ → Filled → Listed
-listed_from n f = record { refused = 0; stop = f.stop; rows = f.numbers / n; place = f.place }
+-- a listing put behind the first i rows
+unfoldable pub fills_from : Columns → List ℕ → ℕ → Listing → List ℕ × Listed
+fills_from c rows i l = (
+  over rows (width c * i) l.rows,
+  record { refused = 0; stop = last_number l.last; rows = i + length l.rows / width c; place = l.place },
+)

@@ -1,8 +1,6 @@
 // Options written in one call from lent rows, all of them or none.
 ghost use Rattle.sindovaleph_rows.specs.Writing.{WritesList};
 
-use options::rows::RowsWritten;
-
 // What a write of rows answers: how many rows are written and the place behind them. Where a row is refused, `refused` is its number and
 // `rows` its index; then nothing is written, and the place is left. 2 and 4, of the room and the place, are told of row 0.
 #[repr(C)]
@@ -24,17 +22,14 @@ pub fn sindovaleph_write_list(
     ensures { WritesList rows.now values.now room.old room.new place result }
 {
     match options::rows::write_rows(room, place, rows, values) {
-        RowsWritten::To {
-            rows: count,
-            place: to,
-        } => WrittenRows {
+        Ok(written) => WrittenRows {
             refused: 0,
-            rows: count,
-            place: to,
+            rows: written.rows,
+            place: written.place,
         },
-        RowsWritten::Refused { row, number } => WrittenRows {
-            refused: number,
-            rows: row,
+        Err(refused) => WrittenRows {
+            refused: refused.refusal.number(),
+            rows: refused.row,
             place,
         },
     }

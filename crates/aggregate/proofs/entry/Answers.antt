@@ -1,14 +1,17 @@
 -- `entry` meets its contract: what is answered is the option of the code at the index.
 -- Assumes nothing.
-use Rattle.aggregate.specs.Spanned.{Open}
-use Rattle.aggregate.proofs.Finding.{told, entry_closed, entry_open}
+use mathlib.Core.Path.{◌≡◌}
+use Rattle.std.proofs.Common.{rules}
+use Rattle.aggregate.proofs.Finding.{entry_closed, entry_open}
 use Rattle.aggregate.proofs.entry.Goals as goal
 
-pub returns-in-Refused : goal.returns-in-Refused
-returns-in-Refused c = entry_closed _ _ _ (told _ c.overload.ensures c.in-Refused.is)
+pub returns-in_err-opened : goal.returns-in_err-opened
+returns-in_err-opened c =
+    let so = entry_closed c.args.message.now c.args.index c.args.join.now _ c.in_err-opened.ensures in
+    search rules
 
-pub returns-in-Is : goal.returns-in-Is
-returns-in-Is c =
-    let reads : Open c.args.message.now c.in-Is.named =
-    told _ c.overload.ensures c.in-Is.is in
-    entry_open _ _ _ reads c.code_at.ensures c.option.ensures
+pub returns : goal.returns
+returns c =
+    let o = c.in_ok-opened.opened in
+    let same : o.message.now ≡ c.args.message.now = c.in_ok-opened.ensures in
+    rw (← same) (entry_open _ _ _ o.opened c.code_at.ensures c.option.ensures)

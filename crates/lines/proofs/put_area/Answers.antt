@@ -1,25 +1,14 @@
 -- `put_area` meets its contract: the options' lines, or what stands in their place.
 -- Assumes nothing.
-use mathlib.Core.Path.{sym, ap, ◌∙◌}
+use mathlib.Core.Path.{sym, ◌∙◌}
 use Rattle.rfc.proofs.Header.{area_inside}
-use Rattle.header.specs.Header.{says_area}
 use Rattle.borrowed.proofs.Shown.{part_there}
 use Rattle.lines.specs.Listing.{area_lines}
 use Rattle.lines.proofs.put_area.Goals as goal
 
-pub returns-in-Refused : goal.returns-in-Refused
+pub returns-in-Ok-Some : goal.returns-in-Ok-Some
 unfolding area_lines
-returns-in-Refused c =
-    rw (← c.area.ensures, c.in-Refused.is) c.put_refused.ensures
-
-pub returns-in-WrongMagic : goal.returns-in-WrongMagic
-unfolding area_lines
-returns-in-WrongMagic c =
-    rw (← c.area.ensures, c.in-WrongMagic.is) c.put_word.ensures
-
-pub returns-in-At : goal.returns-in-At
-unfolding area_lines
-returns-in-At c =
-    let told = ap says_area (sym c.in-At.is) ∙ c.area.ensures in
-    let shows = c.part.ensures ∙ part_there _ _ _ (area_inside _ _ (sym told)) in
+returns-in-Ok-Some c =
+    let told = rw c.in-Ok-Some.field-0-is at c.in-Ok-Some.ensures in
+    let shows = c.part-area.ensures ∙ part_there _ _ _ (area_inside _ _ (sym told)) in
     rw (← told, ← shows) c.put_options.ensures

@@ -1,63 +1,67 @@
 -- `join_field` meets its contract: after each turn some values are joined (`Joined`), and the next one fits.
 -- Assumes nothing.
-use Prim.Native.Nat.{◌+◌, ◌≤◌}
-use mathlib.Core.Path.{◌≡◌}
+use mathlib.Core.Path.{refl, ap, ◌∙◌}
 use native.Mathlib.Omega.{arith}
-use lib.ListN.{length}
+use Rattle.std.specs.Prelude.{Some}
+use Rattle.portions.specs.declared.Portions.{Portions}
+use Rattle.portions.proofs.Left.{gives_none, gives_part, gives_ok}
 use Rattle.aggregate.proofs.Joining.{joined_start, join_long, joined_all, part_within, joined_other, part_fits, joined_more}
 use Rattle.aggregate.proofs.gather.join_field.Goals as goal
 
-pub loop-c-init : goal.loop-c-init
-loop-c-init c = joined_start c.requires
+pub loop-part-init : goal.loop-part-init
+loop-part-init c =
+    let from = c.into_iter-part-iterator.ensures.into_iter_gives in
+    (tt, tt, ap (λ (p : Portions). p.bytes.now) from, rw (ap (λ (p : Portions). p.at) from) (joined_start c.requires))
 
-pub returns-in-Ended : goal.returns-in-Ended
-returns-in-Ended c = joined_all c.loop-c.invariant _ c.portion_at.ensures c.in-Ended.is
+pub unwrap-part-requires : goal.unwrap-part-requires
+unwrap-part-requires c =
+    let v = c.loop-part.invariant in
+    gives_ok _ _ _ _ (rw (← v.2) at v.3.rest) c.next.ensures.steps _ c.in-Some.is
+
+pub overflow_sub-value : goal.overflow_sub-value
+overflow_sub-value c =
+    let v = c.loop-part.invariant in
+    let g = gives_part _ _ _ _ c.next.ensures.steps (c.in-Some.is ∙ ap Some c.unwrap-part.ensures) in
+    let told = rw v.2 at g.0 in
+    omega (arith, part_within v.3 _ told refl)
+
+pub slice_bounds-value-end : goal.slice_bounds-value-end
+slice_bounds-value-end c =
+    let v = c.loop-part.invariant in
+    let g = gives_part _ _ _ _ c.next.ensures.steps (c.in-Some.is ∙ ap Some c.unwrap-part.ensures) in
+    let told = rw v.2 at g.0 in
+    omega (arith, part_within v.3 _ told refl)
 
 pub overflow_add-end : goal.overflow_add-end
 overflow_add-end c =
-    let fits : (c.loop-c.end + c.in-Part.n ≤ length c.loop-c.join) × (length c.loop-c.join ≡ length c.args.join.now) = (
-      part_fits c.loop-c.invariant _ c.portion_at.ensures c.in-Part.is c.if-c-code.true,
-      join_long c.loop-c.invariant,
-    ) in
-    omega (arith, fits)
+    let v = c.loop-part.invariant in
+    let g = gives_part _ _ _ _ c.next.ensures.steps (c.in-Some.is ∙ ap Some c.unwrap-part.ensures) in
+    let told = rw v.2 at g.0 in
+    omega (arith, part_fits v.3 _ told refl c.if-part-code.true, join_long v.3)
 
 pub slice_bounds-write_slice-end : goal.slice_bounds-write_slice-end
 slice_bounds-write_slice-end c =
-    let fits : (c.loop-c.end + c.in-Part.n ≤ length c.loop-c.join) × (length c.loop-c.join ≡ length c.args.join.now) = (
-      part_fits c.loop-c.invariant _ c.portion_at.ensures c.in-Part.is c.if-c-code.true,
-      join_long c.loop-c.invariant,
-    ) in
-    omega (arith, fits)
+    let v = c.loop-part.invariant in
+    let g = gives_part _ _ _ _ c.next.ensures.steps (c.in-Some.is ∙ ap Some c.unwrap-part.ensures) in
+    let told = rw v.2 at g.0 in
+    omega (arith, part_fits v.3 _ told refl c.if-part-code.true, join_long v.3)
 
-pub overflow_sub-place : goal.overflow_sub-place
-overflow_sub-place c =
-    let within : (c.loop-c.at + 2 + c.in-Part.n ≤ c.in-Part.place) × (c.in-Part.place ≤ length c.args.bytes.now) =
-    part_within c.loop-c.invariant _ c.portion_at.ensures c.in-Part.is in
-    omega (arith, within)
+pub loop-part-preserved-then-part-code : goal.loop-part-preserved-then-part-code
+loop-part-preserved-then-part-code c =
+    let v = c.loop-part.invariant in
+    let g = gives_part _ _ _ _ c.next.ensures.steps (c.in-Some.is ∙ ap Some c.unwrap-part.ensures) in
+    let told = rw v.2 at g.0 in
+    (tt, tt, g.1 ∙ v.2, rw g.2 (joined_more v.3 _ told refl c.if-part-code.true c.write_slice.ensures))
 
-pub slice_bounds-write_slice-end-then-c-code : goal.slice_bounds-write_slice-end-then-c-code
-slice_bounds-write_slice-end-then-c-code c =
-    let within : (c.loop-c.at + 2 + c.in-Part.n ≤ c.in-Part.place) × (c.in-Part.place ≤ length c.args.bytes.now) =
-    part_within c.loop-c.invariant _ c.portion_at.ensures c.in-Part.is in
-    omega (arith, within)
+pub loop-part-preserved : goal.loop-part-preserved
+loop-part-preserved c =
+    let v = c.loop-part.invariant in
+    let g = gives_part _ _ _ _ c.next.ensures.steps (c.in-Some.is ∙ ap Some c.unwrap-part.ensures) in
+    let told = rw v.2 at g.0 in
+    (tt, tt, g.1 ∙ v.2, rw g.2 (joined_other v.3 _ told refl c.if-part-code.false))
 
-pub loop-c-smaller-then-c-code : goal.loop-c-smaller-then-c-code
-loop-c-smaller-then-c-code c =
-    let within : (c.loop-c.at + 2 + c.in-Part.n ≤ c.in-Part.place) × (c.in-Part.place ≤ length c.args.bytes.now) =
-    part_within c.loop-c.invariant _ c.portion_at.ensures c.in-Part.is in
-    omega (arith, within)
-
-pub loop-c-preserved-then-c-code : goal.loop-c-preserved-then-c-code
-loop-c-preserved-then-c-code c =
-    joined_more c.loop-c.invariant _ c.portion_at.ensures c.in-Part.is c.if-c-code.true
-    c.write_slice.ensures
-
-pub loop-c-smaller : goal.loop-c-smaller
-loop-c-smaller c =
-    let within : (c.loop-c.at + 2 + c.in-Part.n ≤ c.in-Part.place) × (c.in-Part.place ≤ length c.args.bytes.now) =
-    part_within c.loop-c.invariant _ c.portion_at.ensures c.in-Part.is in
-    omega (arith, within)
-
-pub loop-c-preserved : goal.loop-c-preserved
-loop-c-preserved c =
-    joined_other c.loop-c.invariant _ c.portion_at.ensures c.in-Part.is c.if-c-code.false
+pub returns : goal.returns
+returns c =
+    let v = c.loop-part.invariant in
+    let g = gives_none _ _ _ _ c.next.ensures.steps c.in-None.is in
+    joined_all v.3 _ (rw v.2 at g) refl

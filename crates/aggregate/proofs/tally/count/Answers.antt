@@ -1,60 +1,45 @@
 -- `count` meets its contract: counted of what is left, behind what was counted, is counted of all.
 -- Assumes nothing.
-use mathlib.Core.Path.{◌≡◌, ◌∙◌, sym, ap}
-use mathlib.Core.List.{[]}
+use mathlib.Core.Path.{◌≡◌, ◌∙◌, refl, sym, ap}
 use native.Mathlib.Omega.{arith}
 use lib.ListN.{drop}
-use Rattle.rfc.specs.Portions.{Portions, cut_field, whole, portions}
-use Rattle.portions.proofs.Left.{FirstPart, ended_left, cut_left, first_part}
-use Rattle.aggregate.specs.Tallies.{tally, tallied, counted}
-use Rattle.aggregate.proofs.Tallying.{counts, skips, cut_aside}
+use Rattle.std.specs.Prelude.{Err, Some}
+use Rattle.std.proofs.Common.{rules}
+use Rattle.rfc.specs.Portions.{portions}
+use Rattle.portions.proofs.Left.{ended_left, cut_left, cut_says, first_part, gives_none, gives_cut, gives_part}
+use Rattle.aggregate.specs.Tallies.{tallied, counted}
+use Rattle.aggregate.proofs.Tallying.{counts, skips}
 use Rattle.aggregate.proofs.tally.count.Goals as goal
 
-pub returns-in-Cut : goal.returns-in-Cut
-returns-in-Cut c =
-    let left : let a = c.args in let l = c.loop-c in (f : Portions) → portions l.at (drop l.at a.bytes.now) ≡ f → counted a.code (tally l.parts l.len l.last) f ≡ counted a.code a.before (portions a.start (drop a.start a.bytes.now)) =
-    λ f e. let a = c.args in
-    sym (cut_aside a.code a.before (portions a.start (drop a.start a.bytes.now)) ∙ c.loop-c.invariant.1 ∙ ap (counted _ _) e) in
-    left cut_field (cut_left _ _ c.portion_at.ensures c.in-Cut.is)
+pub returns-in_err-part : goal.returns-in_err-part
+returns-in_err-part c =
+    let a = c.args in
+    let same = c.loop-part.invariant.2 in
+    let g = gives_cut _ _ _ _ c.next.ensures.steps (c.in-Some.is ∙ ap Some c.in_err-part.was) in
+    let told = rw same at g in
+    let so : Err c.in_err-part.field-0.0 ≡ counted a.code a.before (portions a.start (drop a.start a.bytes.now)) =
+    ap Err (cut_says a.bytes.now _ told refl) ∙ sym (c.loop-part.invariant.4 ∙ ap (counted _ _) (cut_left a.bytes.now _ told refl)) in
+    search rules
 
-pub returns-in-Ended : goal.returns-in-Ended
+pub overflow_add-counted-then-part-code : goal.overflow_add-counted-then-part-code
+overflow_add-counted-then-part-code c =
+    let g = gives_part _ _ _ _ c.next.ensures.steps (c.in-Some.is ∙ ap Some c.in_ok-part.was) in
+    let p = first_part c.args.bytes.now _ (rw c.loop-part.invariant.2 at g.0) refl in omega (arith, p.behind, p.within, c.loop-part.invariant.3)
+
+pub loop-part-preserved-then-part-code : goal.loop-part-preserved-then-part-code
+loop-part-preserved-then-part-code c =
+    let g = gives_part _ _ _ _ c.next.ensures.steps (c.in-Some.is ∙ ap Some c.in_ok-part.was) in
+    let p = first_part c.args.bytes.now _ (rw c.loop-part.invariant.2 at g.0) refl in
+    (tt, tt, g.1 ∙ c.loop-part.invariant.2, omega (arith, p.behind, p.within, g.2, c.loop-part.invariant.3), rw g.2 (c.loop-part.invariant.4 ∙ counts _ _ p c.if-part-code.true))
+
+pub loop-part-preserved : goal.loop-part-preserved
+loop-part-preserved c =
+    let g = gives_part _ _ _ _ c.next.ensures.steps (c.in-Some.is ∙ ap Some c.in_ok-part.was) in
+    let p = first_part c.args.bytes.now _ (rw c.loop-part.invariant.2 at g.0) refl in
+    (tt, tt, g.1 ∙ c.loop-part.invariant.2, omega (arith, p.behind, p.within, g.2, c.loop-part.invariant.3), rw g.2 (c.loop-part.invariant.4 ∙ skips _ _ p c.if-part-code.false))
+
+pub returns : goal.returns
 unfolding tallied
-returns-in-Ended c =
-    let left : let a = c.args in let l = c.loop-c in (f : Portions) → portions l.at (drop l.at a.bytes.now) ≡ f → counted a.code (tally l.parts l.len l.last) f ≡ counted a.code a.before (portions a.start (drop a.start a.bytes.now)) =
-    λ f e. let a = c.args in
-    sym (cut_aside a.code a.before (portions a.start (drop a.start a.bytes.now)) ∙ c.loop-c.invariant.1 ∙ ap (counted _ _) e) in
-    left (whole []) (ended_left _ _ c.portion_at.ensures c.in-Ended.is)
-
-pub overflow_add-len : goal.overflow_add-len
-overflow_add-len c =
-    let found : FirstPart c.args.bytes.now c.loop-c.at c.in-Part.c c.in-Part.n c.in-Part.place =
-    first_part _ _ c.portion_at.ensures c.in-Part.is in
-    let p = found in omega arith
-
-pub loop-c-smaller-then-c-code : goal.loop-c-smaller-then-c-code
-loop-c-smaller-then-c-code c =
-    let found : FirstPart c.args.bytes.now c.loop-c.at c.in-Part.c c.in-Part.n c.in-Part.place =
-    first_part _ _ c.portion_at.ensures c.in-Part.is in
-    let p = found in omega arith
-
-pub loop-c-preserved-then-c-code : goal.loop-c-preserved-then-c-code
-loop-c-preserved-then-c-code c =
-    let found : FirstPart c.args.bytes.now c.loop-c.at c.in-Part.c c.in-Part.n c.in-Part.place =
-    first_part _ _ c.portion_at.ensures c.in-Part.is in
-    let p = found in
-    let l = c.loop-c in
-    (omega arith, l.invariant.1 ∙ counts _ _ p c.if-c-code.true)
-
-pub loop-c-smaller : goal.loop-c-smaller
-loop-c-smaller c =
-    let found : FirstPart c.args.bytes.now c.loop-c.at c.in-Part.c c.in-Part.n c.in-Part.place =
-    first_part _ _ c.portion_at.ensures c.in-Part.is in
-    let p = found in omega arith
-
-pub loop-c-preserved : goal.loop-c-preserved
-loop-c-preserved c =
-    let found : FirstPart c.args.bytes.now c.loop-c.at c.in-Part.c c.in-Part.n c.in-Part.place =
-    first_part _ _ c.portion_at.ensures c.in-Part.is in
-    let p = found in
-    let l = c.loop-c in
-    (omega arith, l.invariant.1 ∙ skips _ _ p c.if-c-code.false)
+returns c =
+    let g = gives_none _ _ _ _ c.next.ensures.steps c.in-None.is in
+    sym (c.loop-part.invariant.4 ∙ ap (counted _ _) (ended_left c.args.bytes.now _ (rw c.loop-part.invariant.2 at g) refl))

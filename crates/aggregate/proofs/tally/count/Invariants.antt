@@ -4,12 +4,11 @@ use Prim.Native.Nat.{◌+◌, ◌-◌, ◌≤◌}
 use mathlib.Core.Path.{◌≡◌}
 use lib.ListN.{length, drop}
 use Rattle.rfc.specs.Portions.{portions}
-use Rattle.aggregate.specs.Tallies.{tally, counted}
+use Rattle.aggregate.specs.Tallies.{counted}
 use Rattle.aggregate.proofs.tally.count.Given as goal
 
-abbrev pub invariant-loop-c : goal.invariant-loop-c
-invariant-loop-c l = (l.parts + l.len + (length l.bytes - l.at) ≤ l.initial.parts + l.initial.len + length l.bytes)
-    × (counted l.code (tally l.initial.parts l.initial.len l.initial.last) (portions l.start (drop l.start l.bytes)) ≡ counted l.code (tally l.parts l.len l.last) (portions l.at (drop l.at l.bytes)))
-
-abbrev pub decreases-loop-c : goal.decreases-loop-c
-decreases-loop-c l = length l.bytes - l.at
+abbrev pub invariant-loop-part : goal.invariant-loop-part
+invariant-loop-part l = (goal.iterator-loop-part).can_next l.part-iterator × (goal.iterator-loop-part).is_finite l.part-iterator
+    × (l.part-iterator.bytes.now ≡ l.bytes)
+    × (l.counted.parts + l.counted.len + (length l.bytes - l.part-iterator.at) ≤ l.fn.before.parts + l.fn.before.len + length l.bytes)
+    × (counted l.code l.fn.before (portions l.start (drop l.start l.bytes)) ≡ counted l.code l.counted (portions l.part-iterator.at (drop l.part-iterator.at l.bytes)))

@@ -1,30 +1,48 @@
 -- `fill` meets its contract: what is still to list gives, from where the loop stands, the same end (`Going`).
 -- Assumes nothing.
+use mathlib.Core.Path.{sym, ◌∙◌}
 use native.Mathlib.Omega.{arith}
-use Rattle.sindovaleph_rows.proofs.Filling.{going_full, going_stop, going_more, found_inside, never}
+use Rattle.sindovaleph_rows.proofs.Rows.{four}
+use Rattle.sindovaleph_rows.proofs.Filling.{lists_2, lists_4, lists_given, row_fits, row_part, found_inside, going_none, going_full, going_stop, going_more, never}
 use Rattle.sindovaleph_rows.proofs.listing.fill.Goals as goal
 
-pub put_row-requires : goal.put_row-requires
-put_row-requires c =
+pub returns-then-area-gt-MOST_BYTES : goal.returns-then-area-gt-MOST_BYTES
+returns-then-area-gt-MOST_BYTES g c = lists_2 _ _ _ _ c.if-area-gt-MOST_BYTES.true
+
+pub returns-then-place-area : goal.returns-then-place-area
+returns-then-place-area g c = lists_4 _ _ _ _ c.if-area-gt-MOST_BYTES.false c.if-place-area.true
+
+pub nonzero_div-most : goal.nonzero_div-most
+nonzero_div-most g c =
+    omega (arith, c.WIDTH-width.ensures, g.met.R.Row.wide c.args.row, four (g.R.Row.columns c.args.row))
+
+pub loop-k-init : goal.loop-k-init
+loop-k-init g c = going_none (g.met.R.Row.wide c.args.row ∙ sym c.WIDTH-width.ensures) c.if-place-area.false
+
+pub returns-in_err-found : goal.returns-in_err-found
+returns-in_err-found g c =
+    let l = c.loop-k in
+    never _ l.at _ c.in_err-found.ensures c.if-area-gt-MOST_BYTES.false l.invariant.within
+
+pub put-requires : goal.put-requires
+put-requires g c =
+    let l = c.loop-k in
+    let fits = row_fits c.WIDTH-width.result l.k c.args.rows.now c.loop-k-test.true in
     record {
-      wide = c.loop-rows.invariant.wide;
-      fits = omega arith;
-      inside = found_inside _ c.loop-rows.at _ _ _ _ c.look.ensures c.in-Found.is;
+      wide = row_part c.WIDTH-width.result l.k l.rows (omega (arith, fits, l.invariant.keeps)) ∙ c.WIDTH-width.ensures;
+      inside = found_inside _ l.at _ (rw c.in-Found.is at c.in_ok-found.ensures);
     }
 
-pub loop-rows-preserved : goal.loop-rows-preserved
-loop-rows-preserved c =
-    going_more c.loop-rows.invariant (omega arith) c.look.ensures c.in-Found.is
-    c.put_row.auto.rows c.put_row.ensures
+pub loop-k-preserved : goal.loop-k-preserved
+loop-k-preserved g c =
+    going_more c.loop-k.invariant c.loop-k-test.true (rw c.in-Found.is at c.in_ok-found.ensures) c.put.ensures
 
 pub returns-in-Stopped : goal.returns-in-Stopped
-returns-in-Stopped c =
-    going_stop c.loop-rows.invariant (omega arith) c.look.ensures c.in-Stopped.is c.stop_number.ensures
-
-pub returns-in-Refused : goal.returns-in-Refused
-returns-in-Refused c =
-    let l = c.loop-rows in
-    absurd (never _ l.at c.requires.short l.invariant.within c.look.result c.look.ensures c.in-Refused.is)
+returns-in-Stopped g c =
+    lists_given _ _ _ _ c.if-area-gt-MOST_BYTES.false c.if-place-area.false c.loop-k.invariant.wide
+    (going_stop c.loop-k.invariant c.loop-k-test.true (rw c.in-Stopped.is at c.in_ok-found.ensures))
 
 pub returns : goal.returns
-returns c = going_full c.loop-rows.invariant (omega arith)
+returns g c =
+    lists_given _ _ _ _ c.if-area-gt-MOST_BYTES.false c.if-place-area.false c.loop-k.invariant.wide
+    (going_full c.loop-k.invariant c.loop-k.auto.k-end c.loop-k-test.false)

@@ -1,0 +1,38 @@
+-- `put` meets its contract: a law for each case.
+-- Assumes nothing.
+use mathlib.Core.Path.{◌≡◌, ap, ◌∙◌}
+use Prim.Native.Nat.{ℕ, ◌+◌}
+use native.Mathlib.Omega.{arith}
+use mathlib.Core.List.{List}
+use lib.ListN.{get_or, set}
+use Rattle.sindovaleph_entries.specs.Filling.{Sheet, sheet, sheet_of}
+use Rattle.sindovaleph_entries.proofs.Filling.{puts_first, puts_counted, puts_further, puts_passed, has_row}
+use Rattle.sindovaleph_entries.proofs.Seen.put.Goals as goal
+use Rattle.sindovaleph_entries.proofs.Seen.put.Goals.{then-self-rows, else-self-rows}
+
+pub extend_row-requires : goal.extend_row-requires
+extend_row-requires c = (has_row c.requires (λ z. omega arith) c.if-mark-rows.true).0
+
+pub returns-then-mark-rows : goal.returns-then-mark-rows
+returns-then-mark-rows c =
+    let old : get_or c.args.self.now.marks c.args.part.code 0 ≡ 0 → ⊥ = λ z. omega arith in
+    let row = has_row c.requires old c.if-mark-rows.true in
+    puts_further _ _ _ _ old _ c.if-mark-rows.true row.1 c.extend_row.ensures
+
+pub returns-else-mark-rows : goal.returns-else-mark-rows
+returns-else-mark-rows c = puts_passed _ _ _ _ (λ z. omega arith) c.if-mark-rows.false
+
+pub returns : goal.returns
+returns c =
+    let seen = c.args.self.now in
+    let part = c.args.part in
+    let new : get_or seen.marks part.code 0 ≡ 0 = omega arith in
+    let there = c.requires.holds.each in
+    let counted : List ℕ → Sheet = λ r. sheet (set seen.marks part.code (seen.codes + 1)) r (seen.codes + 1) in
+    elim c.if-self-rows.branch [
+      | then-self-rows w ↦
+          ap counted w.rows-is
+          ∙ puts_first (sheet_of seen c.args.rows.now) part.code part.len part.place new (omega arith) w.if-self-rows.true w.copy_from_slice.ensures.after
+      | else-self-rows w ↦
+          ap counted w.rows-is ∙ puts_counted (sheet_of seen c.args.rows.now) part.code part.len part.place new (omega arith) w.if-self-rows.false
+    ]
