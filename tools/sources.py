@@ -41,6 +41,8 @@ class Function:
     end: int
     # Where the ghost members stand that say what it promises, before it in its `impl` of a trait.
     ghosts: int = -1
+    # The type whose `impl` of a trait it stands in, if it does.
+    of: str = ""
 
     @property
     def name(self):
@@ -107,7 +109,8 @@ CONVERSIONS = ("From", "TryFrom")
 
 
 def owner_of(found, at):
-    """What stands before the names of the functions of the `impl` at `at`, whether it is one of a conversion, and where its brace opens."""
+    """What stands before the names of the functions of the `impl` at `at`; the type, where it is of a trait; whether that is of a conversion;
+    and where its brace opens."""
     opening = next(i for i in range(at, len(found)) if found[i].text == "{")
     head, depth = [], 0
     for token in found[at + 1 : opening]:
@@ -116,21 +119,21 @@ def owner_of(found, at):
         if token.kind == "word" and depth == 0:
             head.append(token.text)
     if "for" not in head:
-        return head[0] + "::", False, opening
+        return head[0] + "::", "", False, opening
     trait = head[: head.index("for")]
     words = [head[head.index("for") + 1], *trait]
-    return "".join(word[0].upper() + word[1:] for word in words) + "::", trait[0] in CONVERSIONS, opening
+    return "".join(word[0].upper() + word[1:] for word in words) + "::", words[0], trait[0] in CONVERSIONS, opening
 
 
 def functions_in(crate, file, text, module, public):
     """The functions of one source, whose module is public or not."""
     found, result, i = tokens(text), [], 0
-    owner, owner_end, converts, ghosts = "", 0, False, -1
+    owner, owner_end, of, converts, ghosts = "", 0, "", False, -1
     while i < len(found):
         if i >= owner_end:
-            owner, converts, ghosts = "", False, -1
+            owner, of, converts, ghosts = "", "", False, -1
         if found[i].text == "impl":
-            owner, converts, opening = owner_of(found, i)
+            owner, of, converts, opening = owner_of(found, i)
             owner_end = closing(found, opening)
             ghosts = found[opening].end if converts else -1
         elif found[i].text == "fn":
@@ -138,7 +141,7 @@ def functions_in(crate, file, text, module, public):
             end = closing(found, body) if found[body].text == "{" else body
             path = module + owner + found[i + 1].text
             seen = public and (first.text == "pub" or converts)
-            result.append(Function(crate, file, path, seen, first.start, found[body].start, found[end].end, ghosts))
+            result.append(Function(crate, file, path, seen, first.start, found[body].start, found[end].end, ghosts, of))
             i = end
         i += 1
     return result

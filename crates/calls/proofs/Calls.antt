@@ -9,7 +9,7 @@ use Rattle.facts.proofs.Over.{from_over}
 use Rattle.rfc.specs.Numbers.{Answer, given, refused, most_bytes, most_value}
 use Rattle.rfc.specs.Walk as walk
 use Rattle.rfc.specs.Walk.{step, join_after}
-use Rattle.rfc.specs.Writing.{Write, answer_to, write_bytes, close}
+use Rattle.rfc.specs.Writing.{Write, answer_to, close}
 use Rattle.rfc.proofs.Writing.{never_needs}
 use Rattle.rfc.specs.Lists.{Opt, Valid, encode_all, Made, finished, write_all}
 use Rattle.rfc.proofs.Lists.{all_goes_on, all_ends_at, all_closes, all_not_closed, writes_all, at-end, First, at_option}
@@ -28,28 +28,28 @@ use Rattle.calls.proofs.Made.{made_same}
 use Rattle.calls.specs.Calls.{WritesAll, closes, goes_on, ends, StepsTo, none, one, found_by, ListsBack, CallsRoundTrip}
 
 -- what the last call of a run of writes says of the run
-abbrev pub made : Result ℕ Refusal → List ℕ → Answer Made
+abbrev made : Result ℕ Refusal → List ℕ → Answer Made
 made (Ok to) room = finished room to
 made (Err e) room = says e
 
 -- where a write's refusal ends a run, the run says what the write says
 ends_as : (w : Write) (room : List ℕ) (place : ℕ) (run : Answer Made)
-    → ({k : ℕ} → answer_to w room place ≡ refused k → run ≡ refused k) → (e : Refusal) → answer_to w room place ≡ says e → run ≡ says e
+    → ((k : ℕ) → answer_to w room place ≡ refused k → run ≡ refused k) → (e : Refusal) → answer_to w room place ≡ says e → run ≡ says e
 ends_as w room place run ended =
     says_as (λ (a : Answer ℕ) (b : Answer Made) k len. answer_to w room place ≡ a → run ≡ b)
-    (λ k h. ended h) (λ len h. absurd (never_needs w room place len h))
+    ended (λ len h. absurd (never_needs w room place len h))
 
 -- the calls do what `write_all` says
 closes_as : (room room' : List ℕ) (place : ℕ) (r : Result ℕ Refusal) → Wrote (close room place) room room' place r
     → write_all [] room place ≡ made r room'
 closes_as room room' place (Ok to) w = all_closes room place (sym w.tells) (sym w.left)
-closes_as room room' place (Err e) w = ends_as _ room place _ (λ h. all_not_closed room place h) e (sym w.tells)
+closes_as room room' place (Err e) w = ends_as _ room place _ (λ k h. all_not_closed room place h) e (sym w.tells)
 
 does_all : {os : List Opt} {room room' : List ℕ} {place : ℕ} {r : Result ℕ Refusal} → WritesAll os room place room' r
     → write_all os room place ≡ made r room'
 does_all (closes w) = closes_as _ _ _ _ w
 does_all (goes_on w more) = all_goes_on _ _ _ _ (sym w.tells) (sym w.left) ∙ does_all more
-does_all (ends w) = ends_as _ _ _ _ (λ h. all_ends_at _ _ _ _ h) _ (sym w.tells)
+does_all (ends w) = ends_as _ _ _ _ (λ k h. all_ends_at _ _ _ _ h) _ (sym w.tells)
 
 -- so a run that makes something ends with its place, and leaves its room
 made_is : (r : Result ℕ Refusal) (room room' : List ℕ) (to : ℕ) → made r room ≡ finished room' to → (r ≡ Ok to) × (room ≡ room')

@@ -25,7 +25,8 @@ pub fn be_i32(a: u8, b: u8, c: u8, d: u8) -> i32
     be_u32(a, b, c, d).cast_signed()
 }
 
-// The number that two bytes from `at` on are, 0 where they are not all there.
+// The number that two bytes from `at` on are, 0 where they are not all there. A function a width, here and below, as the library has
+// `from_be_bytes` for each type; they share `bytes_at`.
 pub fn u16_at(bytes: &[u8], at: usize) -> u16
     ensures { result ≡ number_at 2 bytes.now at }
 {

@@ -87,7 +87,14 @@ module _ {A : Type 0} {width most : ℕ} {make : List A → List ℕ} {room₀ r
   left = ap length s.rest_is ∙ length-drop s.from l
 
   -- the next part has as many elements as it may
-  module _ (part behind : List A) (split : rest ≡ part ++ behind) (as_many : length part ≡ min most (length rest)) (some : 0 < length rest) where
+  module _ (part behind : List A) {k : ℕ} (k_is : k ≡ most)
+      (next : (rest ≡ part ++ behind) × (length part ≡ min k (length rest)) × (0 < length rest)) where
+    split : rest ≡ part ++ behind
+    split = next.0
+
+    as_many : length part ≡ min most (length rest)
+    as_many = next.1 ∙ ap (λ (n : ℕ). min n (length rest)) k_is
+
     part_is : part ≡ take (length part) (drop s.from l)
     part_is = sym (ap (take (length part)) (sym s.rest_is ∙ split) ∙ take_at part behind (length part) refl)
 
@@ -106,7 +113,7 @@ module _ {A : Type 0} {width most : ℕ} {make : List A → List ℕ} {room₀ r
 
     before : width * s.from < length (make l)
     before =
-        let one : s.from + 1 ≤ length l = omega (arith, left) in
+        let one : s.from + 1 ≤ length l = omega (arith, left, next.2) in
         omega (arith, s.made.long l, wide width most s.sofar.some, mul-le-mul_left width one, mul-add width s.from 1)
 
     pub part_short : width * length part ≤ most_part

@@ -1,9 +1,8 @@
 -- The laws of `specs/Joined.antt`: what each line says, by what the library answered.
 -- Assumes nothing.
-use mathlib.Core.Path.{◌≡◌, refl, sym, ap, ◌∙◌}
+use mathlib.Core.Path.{◌≡◌, refl, sym, ◌∙◌}
 use Prim.Native.Nat.{ℕ, suc, ◌+◌, ◌-◌, ◌≤◌, ◌<◌}
 use native.Mathlib.Omega.{arith}
-use mathlib.Core.Bool.{Bool, cond}
 use mathlib.Core.List.{List, [], ◌++◌}
 use lib.ListN.{length}
 use borrow.Author.Tests.{lt-ltb, le-ltb}
@@ -11,23 +10,13 @@ use Rattle.rfc.specs.Numbers.{Answer, given}
 use Rattle.rfc.specs.Header.{Area, area}
 use Rattle.rfc.specs.Walk.{Found, Stop, stop, option}
 use Rattle.rfc.specs.Aggregate.{entry}
-use Rattle.rfc.proofs.Naming.{Names}
 use Rattle.refusal.specs.declared.Refusal.{Refusal}
 use Rattle.refusal.specs.Told.{says, number_of}
 use Rattle.refusal.proofs.Told.{says_as}
-use Rattle.pen.specs.Adding.{State, adds_all}
-use Rattle.pen.proofs.Adding.{both}
 use Rattle.lines.specs.Words as words
 use Rattle.lines.specs.Words.{newline}
 use Rattle.lines.specs.Listing.{most_listed, refused_line, option_line}
-use Rattle.joined_lines.specs.JoinedWords as joined
-use Rattle.joined_lines.specs.Joined.{fields_line, codes_line, in_turn, entries_in, fields_lines, joined_lines, joined_listing}
-
--- line 1
-pub fields_named : (overload : ℕ) (file sname : Bool) → Names overload file sname
-    → joined.fields ++ joined.options ++ cond file joined.file [] ++ cond sname joined.sname [] ++ newline ≡ fields_line overload
-unfolding fields_line
-fields_named overload file sname (e, g) = rw (e, g)
+use Rattle.joined_lines.specs.Joined.{codes_line, in_turn, entries_in, fields_lines, joined_lines, joined_listing}
 
 -- what a refusal says is its number's line
 pub fields_refused : (message : List ℕ) (e : Refusal) → fields_lines message (says e) ≡ refused_line (number_of e)
@@ -60,13 +49,12 @@ module _ (message : List ℕ) (room calls index : ℕ) (some : index < calls) wh
       → refused_line (number_of e) ≡ entries_in (calls - index) room message index
   entries_refused e told = sym (turn_refused index _ e) ∙ entries_next (says e) told
 
-  pub entries_more : {t : State} (s : State) (code parts at : ℕ) (v : List ℕ) → given (option code v parts at) ≡ entry message index room
-      → t ≡ adds_all s (option_line code v parts)
-      → adds_all t (entries_in (calls - (index + 1)) room message (index + 1)) ≡ adds_all s (entries_in (calls - index) room message index)
+  pub entries_more : (code parts at : ℕ) (v : List ℕ) → given (option code v parts at) ≡ entry message index room
+      → option_line code v parts ++ entries_in (calls - (index + 1)) room message (index + 1) ≡ entries_in (calls - index) room message index
   unfolding in_turn
-  entries_more s code parts at v told e = both s _ _ e refl ∙ ap (adds_all s) (entries_next (given (option code v parts at)) told)
+  entries_more code parts at v told = entries_next (given (option code v parts at)) told
 
-pub entries_none : (room : ℕ) (message : List ℕ) (index calls : ℕ) → calls ≤ index → entries_in (calls - index) room message index ≡ []
+pub entries_none : (room : ℕ) (message : List ℕ) (index calls : ℕ) → calls ≤ index → [] ≡ entries_in (calls - index) room message index
 unfolding entries_in
 entries_none room message index calls h =
     let none : calls - index ≡ 0 = omega arith in

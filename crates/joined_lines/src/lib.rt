@@ -7,26 +7,31 @@ ghost use Rattle.rfc.specs.Header as rfc;
 ghost use Rattle.rfc.specs.Writing.{into_room};
 ghost use Rattle.rfc.specs.Aggregate.{overload_of};
 ghost use Rattle.encoder.specs.Written.{Wrote};
-ghost use Rattle.pen.specs.Adding.{adds_all};
+ghost use Rattle.pen.specs.Added.{Added};
 ghost use Rattle.joined_lines.specs.Joined.{fields_line, codes_line, entries_in, fields_lines, joined_lines, joined_listing};
 
 use borrowed::answer::Step;
 use header::Header;
 use lines::MOST_LISTED;
-use lines::writing::{Text, write};
+use pen::{Pen, Show};
 use refusal::Refusal;
 
 // A message that is listed in this reading.
-#[derive(Clone, Copy)]
+#[derive(Drop)]
 struct Joined<'a> {
     message: &'a [u8],
 }
 
-impl<'a> Text for Joined<'a> {
-    ghost whole = { λ it. joined_listing it.message.now };
+impl<'a> Show for Joined<'a> {
+    ghost text = { λ it. joined_listing it.message.now };
 
-    fn put(&self, room: &mut [u8], at: usize) -> usize {
-        put_joined(room, at, self.message)
+    #[tactic(auto, using(crate::proofs::Telling::joined_long, crate::proofs::Telling::joined_whole))]
+    fn show(&self, pen: &mut Pen) {
+        if self.message.len() > MOST_LISTED {
+            pen.word(b"too long\n");
+            return;
+        }
+        put_lines(pen, self.message);
     }
 }
 
@@ -35,47 +40,38 @@ pub fn write_joined(room: &mut [u8], place: usize, message: &[u8]) -> Result<usi
     ensures { Wrote (into_room (joined_listing message.now) room.old place)
         room.old room.new place result }
 {
-    write(room, place, &Joined { message })
-}
-
-// Adds the whole listing.
-fn put_joined(text: &mut [u8], at: usize, message: &[u8]) -> usize
-    ensures { (text.new, result) ≡ adds_all (text.old, at) (joined_listing message.now) }
-{
-    if message.len() > MOST_LISTED {
-        return pen::put_word(text, at, b"too long\n");
-    }
-    put_lines(text, at, message)
+    pen::write(room, place, &Joined { message })
 }
 
 // Adds the lines of a message, or the one that stands in their place.
-fn put_lines(text: &mut [u8], at: usize, message: &[u8]) -> usize
-    ensures { (text.new, result)
-        ≡ adds_all (text.old, at) (joined_lines message.now (rfc.area message.now)) }
+#[tactic(auto, using(crate::proofs::Telling::lines_refused), unfolding(crate::specs::Joined::joined_lines))]
+fn put_lines(pen: &mut Pen, message: &[u8])
+    ensures { Added pen.old pen.new (joined_lines message.now (rfc.area message.now)) }
 {
     match Header::area(message) {
-        Ok(Some(_)) => put_fields(text, at, message),
-        Ok(None) => pen::put_word(text, at, b"magic wrong\n"),
-        Err(refusal) => lines::put_refused(text, at, refusal.number()),
+        Ok(Some(_)) => put_fields(pen, message),
+        Ok(None) => pen.word(b"magic wrong\n"),
+        Err(refusal) => lines::put_refused(pen, refusal.number()),
     }
 }
 
 // Adds the lines of the fields that option 52 names.
-fn put_fields(text: &mut [u8], at: usize, message: &[u8]) -> usize
-    ensures { (text.new, result)
-        ≡ adds_all (text.old, at) (fields_lines message.now (overload_of message.now)) }
+#[tactic(auto, using(crate::proofs::Telling::fields_refused), unfolding(crate::specs::Joined::fields_lines))]
+fn put_fields(pen: &mut Pen, message: &[u8])
+    ensures { Added pen.old pen.new (fields_lines message.now (overload_of message.now)) }
 {
     match aggregate::fields::overload(message) {
         Ok(named) => {
             let mut join = [0u8; MOST_LISTED];
-            let to = pen::put_word(text, at, fields_line(named));
-            put_entries(text, to, message, &mut join)
+            pen.word(fields_line(named));
+            put_entries(pen, message, &mut join);
         }
-        Err(refusal) => lines::put_refused(text, at, refusal.number()),
+        Err(refusal) => lines::put_refused(pen, refusal.number()),
     }
 }
 
 // The line of the fields that option 52 names.
+#[tactic(auto, unfolding(crate::specs::Joined::fields_line, rfc::specs::Aggregate::names_file, rfc::specs::Aggregate::names_sname))]
 fn fields_line(named: usize) -> &'static [u8]
     ensures { result.now ≡ fields_line named }
 {
@@ -88,28 +84,25 @@ fn fields_line(named: usize) -> &'static [u8]
 }
 
 // Adds a line for each code, and how many there are, in no more calls than the message has bytes.
-fn put_entries(text: &mut [u8], at: usize, message: &[u8], join: &mut [u8]) -> usize
-    ensures { (text.new, result) ≡ adds_all (text.old, at)
-        (entries_in (length message.now) (length join.old) message.now 0) }
+#[tactic(auto, using(lines::proofs::Resting::begins))]
+fn put_entries(pen: &mut Pen, message: &[u8], join: &mut [u8])
+    ensures { Added pen.old pen.new (entries_in (length message.now) (length join.old) message.now 0) }
 {
-    let mut to = at;
     for index in 0..message.len() {
         match aggregate::entry(message, index, join) {
             Ok(Step::Found(found)) => {
-                let value = found.value(message, join);
-                to = lines::put_option(text, to, found.code, found.parts, value);
+                lines::put_option(pen, found.code, found.parts, found.value(message, join));
             }
-            Ok(Step::Stopped(_, _)) => return put_codes(text, to, index),
-            Err(refusal) => return lines::put_refused(text, to, refusal.number()),
+            Ok(Step::Stopped(_, _)) => return put_codes(pen, index),
+            Err(refusal) => return lines::put_refused(pen, refusal.number()),
         }
     }
-    to
 }
 
 // Adds the line of how many codes there are.
-fn put_codes(text: &mut [u8], at: usize, count: usize) -> usize
-    ensures { (text.new, result) ≡ adds_all (text.old, at) (codes_line count) }
+fn put_codes(pen: &mut Pen, count: usize)
+    ensures { Added pen.old pen.new (codes_line count) }
 {
-    let to = pen::put_named(text, at, b"codes ", count);
-    pen::put_word(text, to, b"\n")
+    pen.named(b"codes ", count);
+    pen.word(b"\n");
 }

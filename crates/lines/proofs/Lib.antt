@@ -1,5 +1,5 @@
 pub mod Telling
-pub mod Measured
+pub mod Resting
 pub mod Whole
 pub mod Unique
 pub mod Room

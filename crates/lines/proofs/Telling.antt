@@ -18,8 +18,6 @@ use Rattle.refusal.specs.declared.Refusal.{Refusal}
 use Rattle.refusal.specs.Told.{told, says, number_of}
 use Rattle.refusal.proofs.Told.{told_one, says_as}
 use Rattle.pen.specs.Texts.{space}
-use Rattle.pen.specs.Adding.{State, adds_all}
-use Rattle.pen.proofs.Adding.{both}
 use Rattle.lines.specs.Words as words
 use Rattle.lines.specs.Words.{newline}
 use Rattle.lines.specs.Listing.{most_listed, message_line, refused_line, address_text, chaddr_line, option_line, stop_line, onward, lines_in, area_lines, listing}
@@ -68,14 +66,12 @@ module _ (area : List ℕ) (room place calls i : ℕ) (some : i < calls) where
   pub lines_refused : (e : Refusal) → says e ≡ walk.step area place room → refused_line (number_of e) ≡ lines_in (calls - i) room area place
   lines_refused e told = sym (onward_refused _ e) ∙ lines_next (says e) told
 
-  pub lines_more : {t : State} (s : State) (code parts at : ℕ) (v : List ℕ) → given (walk.option code v parts at) ≡ walk.step area place room
-      → t ≡ adds_all s (option_line code v parts)
-      → adds_all t (lines_in (calls - (i + 1)) room area at) ≡ adds_all s (lines_in (calls - i) room area place)
+  pub lines_more : (code parts at : ℕ) (v : List ℕ) → given (walk.option code v parts at) ≡ walk.step area place room
+      → option_line code v parts ++ lines_in (calls - (i + 1)) room area at ≡ lines_in (calls - i) room area place
   unfolding onward
-  lines_more s code parts at v told e =
-      both s _ (lines_in (calls - (i + 1)) room area at) e refl ∙ ap (adds_all s) (lines_next (given (walk.option code v parts at)) told)
+  lines_more code parts at v told = lines_next (given (walk.option code v parts at)) told
 
-pub lines_none : (room : ℕ) (area : List ℕ) (place calls i : ℕ) → calls ≤ i → lines_in (calls - i) room area place ≡ []
+pub lines_none : (room : ℕ) (area : List ℕ) (place calls i : ℕ) → calls ≤ i → [] ≡ lines_in (calls - i) room area place
 unfolding lines_in
 lines_none room area place calls i h =
     let none : calls - i ≡ 0 = omega arith in

@@ -2,38 +2,48 @@
 // and the stop.
 #![tactic(auto)]
 
-pub mod writing;
-
 ghost use Rattle.std.specs.Prelude.{◌≡◌, length};
 ghost use Rattle.rfc.specs.Header as rfc;
 ghost use Rattle.rfc.specs.Writing.{into_room};
 ghost use Rattle.encoder.specs.Written.{Wrote};
 ghost use Rattle.borrowed.specs.Walked.{stop_of};
-ghost use Rattle.pen.specs.Adding.{adds_all};
-ghost use Rattle.lines.specs.Listing.{message_line, spill_text, address_text, chaddr_line, area_lines, listing};
+ghost use Rattle.pen.specs.Added.{Added};
+ghost use Rattle.lines.specs.Listing.{message_line, address_text, area_lines, listing};
 ghost use Rattle.lines.specs.Listing.{refused_line, option_line, stop_word, stop_line, lines_in};
 ghost use Rattle.lines.specs.Listed.{Listed};
 
 use borrowed::answer::{Step, Stop};
 use header::Header;
 use limits::LEAST_MESSAGE;
+use pen::{Pen, Show};
 use refusal::Refusal;
-use writing::{Text, write};
 
 // The most bytes of a message that is listed, and the room in which its options are joined.
 pub const MOST_LISTED: usize = 4096;
 
 // A message that is listed.
-#[derive(Clone, Copy)]
+#[derive(Drop)]
 struct Listing<'a> {
     message: &'a [u8],
 }
 
-impl<'a> Text for Listing<'a> {
-    ghost whole = { λ it. listing it.message.now };
+impl<'a> Show for Listing<'a> {
+    ghost text = { λ it. listing it.message.now };
 
-    fn put(&self, room: &mut [u8], at: usize) -> usize {
-        put_listing(room, at, self.message)
+    #[tactic(auto, using(crate::proofs::Telling::listing_long, crate::proofs::Telling::listing_short))]
+    fn show(&self, pen: &mut Pen) {
+        if self.message.len() > MOST_LISTED {
+            pen.word(b"too long\n");
+            return;
+        }
+        if self.message.len() < LEAST_MESSAGE {
+            put_refused(pen, Refusal::MessageTooShort.number());
+            return;
+        }
+        put_message(pen, self.message);
+        pen.word(b"chaddr");
+        put_address(pen, self.message);
+        put_area(pen, self.message);
     }
 }
 
@@ -42,141 +52,102 @@ pub fn write_listing(room: &mut [u8], place: usize, message: &[u8]) -> Result<us
     ensures { Wrote (into_room (listing message.now) room.old place)
         room.old room.new place result }
 {
-    write(room, place, &Listing { message })
-}
-
-// Adds the whole listing.
-fn put_listing(text: &mut [u8], at: usize, message: &[u8]) -> usize
-    ensures { (text.new, result) ≡ adds_all (text.old, at) (listing message.now) }
-{
-    if message.len() > MOST_LISTED {
-        return pen::put_word(text, at, b"too long\n");
-    }
-    if message.len() < LEAST_MESSAGE {
-        return put_refused(text, at, 1);
-    }
-    let address = put_message(text, at, message);
-    let options = put_chaddr(text, address, message);
-    put_area(text, options, message)
+    pen::write(room, place, &Listing { message })
 }
 
 // Adds the line of a refusal.
-pub fn put_refused(text: &mut [u8], at: usize, number: u8) -> usize
-    ensures { (text.new, result) ≡ adds_all (text.old, at) (refused_line number) }
+pub fn put_refused(pen: &mut Pen, number: u8)
+    ensures { Added pen.old pen.new (refused_line number) }
 {
-    let to = pen::put_named(text, at, b"refused ", number as usize);
-    pen::put_word(text, to, b"\n")
+    pen.named(b"refused ", number as usize);
+    pen.word(b"\n");
 }
 
 // Adds the line of the message's length and of four numbers of its header, none of which is refused.
-fn put_message(text: &mut [u8], at: usize, message: &[u8]) -> usize
+#[tactic(auto, using(crate::proofs::Telling::field_given))]
+fn put_message(pen: &mut Pen, message: &[u8])
     requires { Listed message.now }
-    ensures { (text.new, result) ≡ adds_all (text.old, at) (message_line message.now) }
+    ensures { Added pen.old pen.new (message_line message.now) }
 {
-    let op = pen::put_named(text, at, b"message ", message.len());
-    let htype = pen::put_named(text, op, b" op ", Header::op(message).unwrap());
-    let hlen = pen::put_named(text, htype, b" htype ", Header::htype(message).unwrap());
-    let xid = pen::put_named(text, hlen, b" hlen ", Header::hlen(message).unwrap());
-    let end = pen::put_named(text, xid, b" xid ", Header::xid(message).unwrap());
-    pen::put_word(text, end, b"\n")
-}
-
-// Adds the line of the hardware address.
-fn put_chaddr(text: &mut [u8], at: usize, message: &[u8]) -> usize
-    ensures { (text.new, result) ≡ adds_all (text.old, at) (chaddr_line message.now) }
-{
-    let to = pen::put_word(text, at, b"chaddr");
-    put_address(text, to, message)
+    pen.named(b"message ", message.len());
+    pen.named(b" op ", Header::op(message).unwrap());
+    pen.named(b" htype ", Header::htype(message).unwrap());
+    pen.named(b" hlen ", Header::hlen(message).unwrap());
+    pen.named(b" xid ", Header::xid(message).unwrap());
+    pen.word(b"\n");
 }
 
 // Adds the bytes of the hardware address and whether it spills, or its refusal.
-fn put_address(text: &mut [u8], at: usize, message: &[u8]) -> usize
-    ensures { (text.new, result)
-        ≡ adds_all (text.old, at) (address_text message.now (rfc.chaddr message.now)) }
+fn put_address(pen: &mut Pen, message: &[u8])
+    ensures { Added pen.old pen.new (address_text message.now (rfc.chaddr message.now)) }
 {
     match Header::chaddr(message) {
         Ok(chaddr) => {
-            let shown = borrowed::part(message, chaddr.start, chaddr.len);
-            let end = pen::put_spaced(text, at, shown);
-            put_spill(text, end, chaddr.spills)
+            pen.spaced(borrowed::part(message, chaddr.start, chaddr.len));
+            if chaddr.spills {
+                pen.word(b" spill");
+            }
+            pen.word(b"\n");
         }
         Err(refusal) => {
-            let to = pen::put_word(text, at, b" ");
-            put_refused(text, to, refusal.number())
+            pen.word(b" ");
+            put_refused(pen, refusal.number());
         }
     }
-}
-
-// Adds the end of the address's line, and in front of it the word for an address that spills.
-fn put_spill(text: &mut [u8], at: usize, spills: bool) -> usize
-    ensures { (text.new, result) ≡ adds_all (text.old, at) (spill_text spills) }
-{
-    if spills {
-        return pen::put_word(text, at, b" spill\n");
-    }
-    pen::put_word(text, at, b"\n")
 }
 
 // Adds the lines of the options.
-fn put_area(text: &mut [u8], at: usize, message: &[u8]) -> usize
-    ensures { (text.new, result)
-        ≡ adds_all (text.old, at) (area_lines message.now (rfc.area message.now)) }
+#[tactic(auto, using(crate::proofs::Telling::area_refused), unfolding(crate::specs::Listing::area_lines))]
+fn put_area(pen: &mut Pen, message: &[u8])
+    ensures { Added pen.old pen.new (area_lines message.now (rfc.area message.now)) }
 {
     match Header::area(message) {
         Ok(Some(span)) => {
             let area = borrowed::part(message, span.start, span.len);
             let mut join = [0u8; MOST_LISTED];
-            put_options(text, at, area, &mut join, message.len())
+            put_options(pen, area, &mut join, message.len());
         }
-        Ok(None) => pen::put_word(text, at, b"magic wrong\n"),
-        Err(refusal) => put_refused(text, at, refusal.number()),
+        Ok(None) => pen.word(b"magic wrong\n"),
+        Err(refusal) => put_refused(pen, refusal.number()),
     }
 }
 
 // Adds a line for each option, and the ending, in no more than so many calls of the walk.
-fn put_options(text: &mut [u8], at: usize, area: &[u8], join: &mut [u8], calls: usize) -> usize
-    ensures { (text.new, result)
-        ≡ adds_all (text.old, at) (lines_in calls (length join.old) area.now 0) }
+#[tactic(auto, using(crate::proofs::Resting::begins))]
+fn put_options(pen: &mut Pen, area: &[u8], join: &mut [u8], calls: usize)
+    ensures { Added pen.old pen.new (lines_in calls (length join.old) area.now 0) }
 {
-    let mut to = at;
     let mut place: usize = 0;
     for _ in 0..calls {
         match borrowed::step(area, place, join) {
             Ok(Step::Found(found)) => {
-                let value = found.value(area, join);
-                to = put_option(text, to, found.code, found.parts, value);
+                put_option(pen, found.code, found.parts, found.value(area, join));
                 place = found.place;
             }
-            Ok(Step::Stopped(stop, end)) => return put_stop(text, to, stop, end),
-            Err(refusal) => return put_refused(text, to, refusal.number()),
+            Ok(Step::Stopped(stop, end)) => return put_stop(pen, stop, end),
+            Err(refusal) => return put_refused(pen, refusal.number()),
         }
     }
-    to
 }
 
 // Adds the line of an option.
-pub fn put_option(text: &mut [u8], at: usize, code: u8, parts: usize, value: &[u8]) -> usize
-    ensures { (text.new, result) ≡ adds_all (text.old, at) (option_line code value.now parts) }
+pub fn put_option(pen: &mut Pen, code: u8, parts: usize, value: &[u8])
+    ensures { Added pen.old pen.new (option_line code value.now parts) }
 {
-    let kind = pen::put_named(text, at, b"option ", code as usize);
-    let counted = pen::put_named(
-        text,
-        kind,
-        b" kind ",
-        kinds::kind_of(code).number() as usize,
-    );
-    let shown = pen::put_named(text, counted, b" parts ", parts);
-    let bytes = pen::put_word(text, shown, b" value");
-    let end = pen::put_spaced(text, bytes, value);
-    pen::put_word(text, end, b"\n")
+    pen.named(b"option ", code as usize);
+    pen.named(b" kind ", kinds::kind_of(code).number() as usize);
+    pen.named(b" parts ", parts);
+    pen.word(b" value");
+    pen.spaced(value);
+    pen.word(b"\n");
 }
 
 // Adds the line of a stop and its place.
-fn put_stop(text: &mut [u8], at: usize, stop: Stop, place: usize) -> usize
-    ensures { (text.new, result) ≡ adds_all (text.old, at) (stop_line (stop_of stop) place) }
+fn put_stop(pen: &mut Pen, stop: Stop, place: usize)
+    ensures { Added pen.old pen.new (stop_line (stop_of stop) place) }
 {
-    let end = pen::put_named(text, at, stop_word(stop), place);
-    pen::put_word(text, end, b"\n")
+    pen.named(stop_word(stop), place);
+    pen.word(b"\n");
 }
 
 // The name of a stop.

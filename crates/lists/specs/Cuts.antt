@@ -3,17 +3,19 @@
 use Rattle.std.specs.Prelude.{ℕ, ◌+◌, ◌*◌, ◌≤◌, ◌<◌, ◌≡◌, List, length}
 use Rattle.rfc.specs.Numbers.{most_part}
 use Rattle.rfc.specs.Writing.{encode}
-use Rattle.rfc.specs.Typed.{digits_of, part_size}
+use Rattle.rfc.specs.Typed.{part_size}
 
--- a kind of list that is cut at so many numbers, each of so many bytes; it is no text and no flag
+-- a kind of list that is cut at so many numbers, each of so many bytes; it is no text and no flag, and if it is one of pairs its numbers
+-- are addresses
 pub record CutAt (kind width most : ℕ) : Type 0 where
   pub part_is : part_size kind ≡ width * most
   pub some : 0 < width * most
   pub fits_part : width * most ≤ most_part
   pub other : (kind ≡ 10 → ⊥) × (kind ≡ 15 → ⊥)
+  pub paired : kind ≡ 3 → width ≡ 4
 
--- numbers of so many bytes whose parts, so many numbers each, fit in a room at a place
-pub record Ready (most width code place : ℕ) (l room : List ℕ) : Type 0 where
+-- the bytes of numbers, so many each, whose parts, so many numbers each, fit in a room at a place
+pub record Ready (width most code place : ℕ) (bytes room : List ℕ) : Type 0 where
   pub some : 0 < width * most
   pub fits_part : width * most ≤ most_part
-  pub fits : place + length (encode (width * most) code (digits_of width l)) ≤ length room
+  pub fits : place + length (encode (width * most) code bytes) ≤ length room

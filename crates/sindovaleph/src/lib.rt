@@ -69,30 +69,21 @@ pub fn sindovaleph_step(area: &[u8], place: usize, join: &mut [u8]) -> Step
             len: 0,
             place: to,
         },
-        First::Several => anew(long_way(&area[0..area.len()], place, join)),
-        First::Other => anew(long_way(&area[0..area.len()], place, join)),
+        First::Several => Step {
+            ..long_way(&area[0..area.len()], place, join)
+        },
+        First::Other => Step {
+            ..long_way(&area[0..area.len()], place, join)
+        },
     }
 }
 
 // The long way of a step: any place of any area.
+#[tactic(auto, using(crossing::proofs::Carries::step_crosses))]
 fn long_way(area: &[u8], place: usize, join: &mut [u8]) -> Step
     ensures { Stepped area.now place join.old join.new result }
 {
     crossing::step_of(borrowed::step(area, place, join), place)
-}
-
-// An answer, built anew.
-fn anew(s: Step) -> Step
-    ensures { result ≡ s }
-{
-    Step {
-        refused: s.refused,
-        stop: s.stop,
-        code: s.code,
-        parts: s.parts,
-        len: s.len,
-        place: s.place,
-    }
 }
 
 // A byte value.

@@ -16,6 +16,7 @@ pub fn sindovaleph_overload(message: &[u8]) -> Field
 }
 
 // What `code` is in the message: an option, or out where it has no part.
+#[tactic(auto, using(crossing::proofs::Carries::step_crosses))]
 pub fn sindovaleph_find(message: &[u8], code: u8, join: &mut [u8]) -> Step
     ensures { Steps 0 join.old join.new result (rfc.find message.now code (length join.old)) }
 {
@@ -23,6 +24,7 @@ pub fn sindovaleph_find(message: &[u8], code: u8, join: &mut [u8]) -> Step
 }
 
 // The option at an index, in the order in which codes first appear; out behind the last.
+#[tactic(auto, using(crossing::proofs::Carries::step_crosses))]
 pub fn sindovaleph_entry(message: &[u8], index: usize, join: &mut [u8]) -> Step
     ensures { Steps 0 join.old join.new result (rfc.entry message.now index (length join.old)) }
 {

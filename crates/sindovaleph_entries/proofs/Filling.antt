@@ -16,7 +16,12 @@ use Rattle.rfc.specs.Aggregate.{fields_of, aggregate, codes_of, options_from}
 use Rattle.rfc.proofs.Portions.{parts_whole}
 use Rattle.rfc.proofs.Listed.{Further, again, first, further, Coded, coded_append, coded_field, few_listed}
 use Rattle.rfc.proofs.Sizes.{joined_both, joined_more, fits_field, of_code_fits}
+use Rattle.rfc.proofs.Bytes.{bytes_take}
 use Rattle.portions.proofs.Left.{FirstLeft}
+use Rattle.aggregate.specs.Spanned.{Open, spans_of}
+use Rattle.aggregate.specs.declared.fields.Spans.{Spans}
+use Rattle.aggregate.proofs.Spanning.{Reads, opens}
+use Rattle.aggregate.proofs.Fronts.{options_at, file_at, sname_at, file_front, sname_front}
 use Rattle.sindovaleph_entries.specs.Rows.{entry_rows}
 use Rattle.sindovaleph_entries.specs.Filling.{Sheet, sheet, begins, extended, puts, fills, Holds, Extends, Puts, Fills, FillsAll}
 use Rattle.sindovaleph_entries.proofs.Putting.{holds_code, holds_parts, holds_len, holds_long, holds_more, holds_all, holds_none}
@@ -202,3 +207,41 @@ sofar_all {lent} {ps} message h e =
       kept = h.holds.filled ∙ ap (λ (l : List Portion). over lent 0 (entry_rows (length lent / 4) (options_from l))) (sym e);
       told = h.holds.counted ∙ ap (λ (l : List Portion). length (codes_of l)) (sym e);
     }
+
+-- the three fields of a message that is read, one after the other
+module _ (message lent : List ℕ) {named : ℕ} (o : Open message named) {at : Spans} (e : at ≡ spans_of message named) where
+  reads : Reads message named
+  reads = opens message named o
+
+  pub file_there : at.file ≡ length (take at.file message)
+  file_there = (file_front reads e).0
+
+  pub sname_there : at.sname ≡ length (take at.sname message)
+  sname_there = (sname_front reads e).0
+
+  pub options_fill : Fills message at.options (sheet (replicate 256 0) lent 0)
+  options_fill = sofar_fills at.options message (sofar_none lent) (options_at reads e) (omega (arith, reads.most))
+
+  module _ (b : Bytes message) {s : Sheet}
+      (put : s ≡ fills (sheet (replicate 256 0) lent 0) (parts_in (portions at.options (drop at.options message)))) where
+    in-options : Sofar lent reads.in-options (0 + length message) s
+    in-options = sofar_more at.options message (sofar_none lent) (options_at reads e) b put
+
+    pub file_fill : Fills (take at.file message) 108 s
+    file_fill =
+        let f = file_front reads e in sofar_fills 108 (take at.file message) in-options (file_at reads e) (omega (arith, reads.most, f))
+
+    module _ {s' : Sheet} (put_file : s' ≡ fills s (parts_in (portions 108 (drop 108 (take at.file message))))) where
+      in_file : Sofar lent (reads.in-options ++ reads.in_file) (0 + length message + length (take at.file message)) s'
+      in_file = sofar_more 108 (take at.file message) in-options (file_at reads e) (bytes_take at.file message b) put_file
+
+      pub sname_fill : Fills (take at.sname message) 44 s'
+      sname_fill =
+          let f = file_front reads e in
+          let g = sname_front reads e in
+          sofar_fills 44 (take at.sname message) in_file (sname_at reads e) (omega (arith, reads.most, f, g))
+
+      pub all_filled : {r : Sheet} → r ≡ fills s' (parts_in (portions 44 (drop 44 (take at.sname message)))) → FillsAll message lent r.rows r.codes
+      all_filled put_sname =
+          sofar_all message
+          (sofar_more 44 (take at.sname message) in_file (sname_at reads e) (bytes_take at.sname message b) put_sname) reads.all

@@ -200,11 +200,11 @@ module _ (c : Columns) (area : List ℕ) (place : ℕ) (rows : List ℕ) where
     lists_4 g = refusing 4 (checks_4 area place _ h g)
 
     module _ (g : place ≤ length area) where
-      pub lists_given : {n : ℕ} (wide : width c ≡ n) (rows' : List ℕ) (r : Listed)
+      pub lists_given : {n : ℕ} {rows' : List ℕ} {r : Listed} → width c ≡ n
           → (rows', r) ≡ fills_from c rows 0 (list_in (length rows / n) c area place)
           → Lists c area place rows rows' r
       unfolding fills_from
-      lists_given wide rows' r e =
+      lists_given {rows' = rows'} {r = r} wide e =
           let l : Listing = list_in (length rows / width c) c area place in
           let z : 0 + length l.rows / width c ≡ length l.rows / width c = omega arith in
           let all = e ∙ ap (λ (m : ℕ). fills_from c rows 0 (list_in (length rows / m) c area place)) (sym wide) in

@@ -1,2 +1,1 @@
-pub mod Crosses
 pub mod Unique

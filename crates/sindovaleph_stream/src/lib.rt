@@ -5,7 +5,7 @@
 ghost use Rattle.std.specs.Prelude.{◌≡◌};
 ghost use Rattle.rfc.specs.Stream as rfc;
 ghost use Rattle.stream.specs.Streamed.{stands_at};
-ghost use Rattle.sindovaleph_stream.specs.Received.{state_of, plain_of, received_of, Receives};
+ghost use Rattle.sindovaleph_stream.specs.Received.{state_of, plain_of, received_here, Receives};
 
 use stream::{Stream as State, Taken};
 
@@ -83,7 +83,7 @@ fn plain(state: u8, high: u8, size: u16, filled: u16) -> Stream
 
 // An answer as plain numbers.
 impl From<Taken> for Received {
-    ghost from_gives = { λ taken received. received ≡ received_of taken };
+    ghost from_gives = { λ taken received. received ≡ received_here taken };
 
     fn from(taken: Taken) -> Received {
         let (refused, len) = match taken.frame {

@@ -2,16 +2,17 @@
 // cut anywhere; a frame is gathered at the front of a lent buffer, and handed out at its last byte.
 #![tactic(auto)]
 
-ghost use Rattle.std.specs.Prelude.{◌≤◌, ◌≡◌, length, drop};
+ghost use Rattle.std.specs.Prelude.{◌≤◌, ◌≡◌, Option};
 ghost use Rattle.rfc.specs.Stream as rfc;
 ghost use Rattle.stream.specs.Streamed.{stands_at, taken_of, handed_over, Took};
 ghost use Rattle.stream.specs.declared.Stream.TheVariants.{Shut};
-ghost use Rattle.stream.specs.declared.Frame.TheVariants.{Refused};
+ghost use Rattle.refusal.specs.declared.Refusal.TheVariants.{SizeAboveBuffer};
 
 use limits::LEAST_MESSAGE;
+use refusal::Refusal;
 
 // Where a stream stands between two calls.
-#[derive(Drop)]
+#[derive(Clone, Copy, Debug, PartialEq, Eq)]
 pub enum Stream {
     // The next byte begins a size: at first, and after a reset.
     Between,
@@ -23,21 +24,12 @@ pub enum Stream {
     Shut,
 }
 
-// What a call hands out.
-#[derive(Clone, Copy)]
-pub enum Frame {
-    // Nothing yet: the chunk is used up.
-    More,
-    // A message: the first bytes of the buffer, so many.
-    Message(usize),
-    // A refusal by its number, 1 or 17.
-    Refused(u8),
-}
-
 // What a call answers.
-#[derive(Drop)]
+#[derive(Clone, Copy, Debug, PartialEq, Eq)]
 pub struct Taken {
-    pub frame: Frame,
+    // A message, by its length: it is the first bytes of the buffer. None where the chunk is used up before one is whole. A frame of
+    // fewer than 240 bytes is refused, and a size that is more than the buffer has.
+    pub frame: Result<Option<usize>, Refusal>,
     // How many bytes of the chunk were read.
     pub used: usize,
     pub stream: Stream,
@@ -52,18 +44,7 @@ pub fn receive(stream: Stream, buffer: &mut [u8], chunk: &[u8]) -> Taken
         Stream::Between => start_size(buffer, chunk),
         Stream::Sizing(high) => end_size(high, buffer, chunk, 0),
         Stream::Filling { size, filled } => gather(size, filled, buffer, chunk, 0),
-        Stream::Shut => refuse(0),
-    }
-}
-
-// A size is more than the buffer has, or was.
-fn refuse(used: usize) -> Taken
-    ensures { result ≡ taken_of (Refused 17) used Shut }
-{
-    Taken {
-        frame: Frame::Refused(17),
-        used,
-        stream: Stream::Shut,
+        Stream::Shut => shut(0),
     }
 }
 
@@ -71,57 +52,70 @@ fn refuse(used: usize) -> Taken
 fn start_size(buffer: &mut [u8], chunk: &[u8]) -> Taken
     ensures { Took (rfc.start_size buffer.old chunk.now) buffer.new result }
 {
-    if chunk.len() == 0 {
-        return Taken {
-            frame: Frame::More,
-            used: 0,
-            stream: Stream::Between,
-        };
+    match chunk.split_first() {
+        Some((high, rest)) => end_size(*high, buffer, rest, 1),
+        None => more(0, Stream::Between),
     }
-    end_size(chunk[0], buffer, chunk, 1)
 }
 
-// The next byte ends a size; its first byte and `used` bytes of the chunk were read.
-fn end_size(high: u8, buffer: &mut [u8], chunk: &[u8], used: usize) -> Taken
-    requires { used ≤ length chunk.now }
-    ensures { Took (rfc.end_size used high buffer.old (drop used chunk.now)) buffer.new result }
+// The next byte ends a size, of which the first was read; `used` bytes of the chunk were, and the rest is left.
+fn end_size(high: u8, buffer: &mut [u8], rest: &[u8], used: usize) -> Taken
+    requires { used ≤ 1 }
+    ensures { Took (rfc.end_size used high buffer.old rest.now) buffer.new result }
 {
-    if used == chunk.len() {
-        return Taken {
-            frame: Frame::More,
-            used,
-            stream: Stream::Sizing(high),
-        };
+    match rest.split_first() {
+        Some((low, rest)) => gather(decoder::be_u16(high, *low), 0, buffer, rest, used + 1),
+        None => more(used, Stream::Sizing(high)),
     }
-    let size = decoder::be_u16(high, chunk[used]);
-    gather(size, 0, buffer, chunk, used + 1)
 }
 
-// The size is known; `filled` bytes of the frame stand in the buffer, and `used` bytes of the chunk were read.
-fn gather(size: u16, filled: u16, buffer: &mut [u8], chunk: &[u8], used: usize) -> Taken
-    requires { used ≤ length chunk.now }
-    ensures { Took (rfc.gather used size filled buffer.old (drop used chunk.now)) buffer.new result }
+// The size is known; `filled` bytes of the frame stand in the buffer.
+fn gather(size: u16, filled: u16, buffer: &mut [u8], rest: &[u8], used: usize) -> Taken
+    requires { used ≤ 2 }
+    ensures { Took (rfc.gather used size filled buffer.old rest.now) buffer.new result }
 {
     let all = size as usize;
     let have = filled as usize;
     if all > buffer.len() {
-        return refuse(used);
+        return shut(used);
     }
     if have >= all {
         return hand_out(all, used);
     }
-    let new = parts::next_piece(chunk.len() - used, all - have);
-    encoder::write_slice(buffer, have, &chunk[used..used + new]);
+    let new = parts::next_piece(rest.len(), all - have);
+    // They fit, so no refusal is answered.
+    let _ = encoder::write_slice(buffer, have, &rest[..new]);
     if have + new == all {
         return hand_out(all, used + new);
     }
-    Taken {
-        frame: Frame::More,
-        used: used + new,
-        stream: Stream::Filling {
+    more(
+        used + new,
+        Stream::Filling {
             size,
             filled: (have + new) as u16,
         },
+    )
+}
+
+// The chunk is used up.
+fn more(used: usize, stream: Stream) -> Taken
+    ensures { result ≡ taken_of (Ok None) used stream }
+{
+    Taken {
+        frame: Ok(None),
+        used,
+        stream,
+    }
+}
+
+// A size is more than the buffer has, or was: the stream is refused until it is reset.
+fn shut(used: usize) -> Taken
+    ensures { result ≡ taken_of (Err SizeAboveBuffer) used Shut }
+{
+    Taken {
+        frame: Err(Refusal::SizeAboveBuffer),
+        used,
+        stream: Stream::Shut,
     }
 }
 
@@ -129,15 +123,12 @@ fn gather(size: u16, filled: u16, buffer: &mut [u8], chunk: &[u8], used: usize) 
 fn hand_out(size: usize, used: usize) -> Taken
     ensures { result ≡ handed_over size used }
 {
-    if size < LEAST_MESSAGE {
-        return Taken {
-            frame: Frame::Refused(1),
-            used,
-            stream: Stream::Between,
-        };
-    }
     Taken {
-        frame: Frame::Message(size),
+        frame: if size < LEAST_MESSAGE {
+            Err(Refusal::MessageTooShort)
+        } else {
+            Ok(Some(size))
+        },
         used,
         stream: Stream::Between,
     }

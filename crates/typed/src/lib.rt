@@ -15,10 +15,21 @@ use refusal::Refusal;
 use values::answer::Node;
 
 // Writes an address.
-pub fn write_address(room: &mut [u8], place: usize, code: u8, address: u32) -> Result<usize, Refusal>
+pub fn write_address(
+    room: &mut [u8],
+    place: usize,
+    code: u8,
+    address: u32,
+) -> Result<usize, Refusal>
     ensures { Writes 1 (natural address) code room.old room.new place result }
 {
-    checks::write_as(room, place, code, Kind::Address, &encoder::u32_bytes(address))
+    checks::write_as(
+        room,
+        place,
+        code,
+        Kind::Address,
+        &encoder::u32_bytes(address),
+    )
 }
 
 // Writes a byte.
@@ -68,14 +79,24 @@ pub fn write_text(room: &mut [u8], place: usize, code: u8, text: &[u8]) -> Resul
 }
 
 // Writes a node type as its byte.
-pub fn write_node_type(room: &mut [u8], place: usize, code: u8, node: Node) -> Result<usize, Refusal>
+pub fn write_node_type(
+    room: &mut [u8],
+    place: usize,
+    code: u8,
+    node: Node,
+) -> Result<usize, Refusal>
     ensures { Writes 12 (natural (byte_of node)) code room.old room.new place result }
 {
     checks::write_as(room, place, code, Kind::NodeType, &[u8::from(node)])
 }
 
 // Writes a message type.
-pub fn write_message_type(room: &mut [u8], place: usize, code: u8, byte: u8) -> Result<usize, Refusal>
+pub fn write_message_type(
+    room: &mut [u8],
+    place: usize,
+    code: u8,
+    byte: u8,
+) -> Result<usize, Refusal>
     ensures { Writes 13 (natural byte) code room.old room.new place result }
 {
     checks::write_as(room, place, code, Kind::MessageType, &[byte])
@@ -92,13 +113,7 @@ pub fn write_three_bytes(
 ) -> Result<usize, Refusal>
     ensures { Writes 14 (raw (first ∷ second ∷ third ∷ [])) code room.old room.new place result }
 {
-    checks::write_as(
-        room,
-        place,
-        code,
-        Kind::ThreeBytes,
-        &[first, second, third],
-    )
+    checks::write_as(room, place, code, Kind::ThreeBytes, &[first, second, third])
 }
 
 // Writes a flag, which has no value: the code and a length of 0.

@@ -29,9 +29,6 @@ module _ (v : List ℕ) (a : Answer rfc.Value) where
   pub is_value : {reading : Result Value Refusal} {r : Value} → reading ≡ Ok r → ReadAs v a reading → Tells v a r
   is_value e t = subst (λ (x : Result Value Refusal). ReadAs v a x) e t
 
-  pub is_refused : {reading : Result Value Refusal} {e : Refusal} → reading ≡ Err e → ReadAs v a reading → a ≡ refusal.says e
-  is_refused e t = sym (subst (λ (x : Result Value Refusal). ReadAs v a x) e t)
-
 module _ {kind : Kind} {v : List ℕ} (right : Right (number_of kind) v) {k : Kind} (is : kind ≡ k) where
   -- a case that says what the kind's value is
   tells : (r : Value) (x : rfc.Value) → says r v ≡ x → value_of (number_of k) v ≡ x → count_of r ≡ length (elements x) → Named r

@@ -1,22 +1,10 @@
 -- `put_message` meets its contract: the length, and a name and a number for each of four fields.
 -- Assumes nothing.
-use Rattle.pen.proofs.Adding.{both}
+use Rattle.pen.proofs.Added.{both}
 use Rattle.rfc.specs.Header as header
 use Rattle.lines.specs.Listing.{message_line}
-use Rattle.lines.proofs.Telling.{field_given, field_is}
+use Rattle.lines.proofs.Telling.{field_is}
 use Rattle.lines.proofs.put_message.Goals as goal
-
-pub unwrap-requires : goal.unwrap-requires
-unwrap-requires c = field_given _ header.op c.requires _ c.op.ensures
-
-pub unwrap-requires-2 : goal.unwrap-requires-2
-unwrap-requires-2 c = field_given _ header.htype c.requires _ c.htype.ensures
-
-pub unwrap-requires-3 : goal.unwrap-requires-3
-unwrap-requires-3 c = field_given _ header.hlen c.requires _ c.hlen.ensures
-
-pub unwrap-requires-4 : goal.unwrap-requires-4
-unwrap-requires-4 c = field_given _ header.xid c.requires _ c.xid.ensures
 
 pub returns : goal.returns
 unfolding message_line
@@ -26,5 +14,4 @@ returns c =
     let is-hlen = field_is _ header.hlen c.requires _ c.hlen.ensures _ c.unwrap-3.ensures in
     let is-xid = field_is _ header.xid c.requires _ c.xid.ensures _ c.unwrap-4.ensures in
     rw (is-op, is-htype, is-hlen, is-xid)
-    (both _ _ _ (both _ _ _ (both _ _ _ (both _ _ _ (both _ _ _ c.put_named-op.ensures c.put_named-htype.ensures)
-    c.put_named-hlen.ensures) c.put_named-xid.ensures) c.put_named-end.ensures) c.put_word.ensures)
+    (both (both (both (both (both c.named.ensures c.named-2.ensures) c.named-3.ensures) c.named-4.ensures) c.named-5.ensures) c.word.ensures)

@@ -4,8 +4,8 @@ use Rattle.rfc.proofs.Values.{addresses}
 use Rattle.lists.proofs.Cuts.{cut_addresses, list_holds}
 use Rattle.lists.proofs.write_addresses.Goals as goal
 
-pub write_u32s_as-requires : goal.write_u32s_as-requires
-write_u32s_as-requires c = cut_addresses
+pub write_list-requires : goal.write_list-requires
+write_list-requires c = cut_addresses
 
 pub returns : goal.returns
-returns c = list_holds addresses _ _ _ _ c.write_u32s_as.ensures
+returns c = list_holds addresses _ _ _ _ c.write_list.ensures

@@ -3,7 +3,6 @@
 use mathlib.Core.Path.{ap, ◌∙◌}
 use native.Mathlib.Omega.{arith}
 use lib.Dec.{lit<}
-use Rattle.std.proofs.Common.{min, length}
 use Rattle.std.specs.Slice.Iter.{chunks_rest}
 use Rattle.encoder.proofs.Cuts.{made_bytes, cut_none, part_short, part_fits, cut_more, cut_all}
 use Rattle.options.proofs.put_parts.Goals as goal
@@ -19,22 +18,17 @@ loop-part-init c =
 
 pub put_part-requires : goal.put_part-requires
 put_part-requires c =
-    let l = c.loop-part in
+    let l = c.loop-part.invariant in
     let next = c.in-Some.ensures.steps.1 in
-    let many = next.1 ∙ ap (λ k. min k (length (chunks_rest l.part-iterator))) l.invariant.size in (
-      omega (arith, part_fits l.invariant.cut _ _ next.0 many next.2),
-      omega (arith, part_short l.invariant.cut _ _ next.0 many next.2),
-    )
+    (omega (arith, part_fits l.cut _ _ l.size next), omega (arith, part_short l.cut _ _ l.size next))
 
 pub loop-part-preserved : goal.loop-part-preserved
 loop-part-preserved c =
-    let l = c.loop-part in
+    let l = c.loop-part.invariant in
     let steps = c.in-Some.ensures.steps in
-    let next = steps.1 in
-    let many = next.1 ∙ ap (λ k. min k (length (chunks_rest l.part-iterator))) l.invariant.size in
     record {
-      size = steps.0 ∙ l.invariant.size;
-      cut = cut_more l.invariant.cut _ _ next.0 many next.2 (omega arith) (omega arith) c.put_part.ensures;
+      size = steps.0 ∙ l.size;
+      cut = cut_more l.cut _ _ l.size steps.1 (omega arith) (omega arith) c.put_part.ensures;
     }
 
 pub returns : goal.returns

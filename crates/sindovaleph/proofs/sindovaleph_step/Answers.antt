@@ -6,7 +6,7 @@ use Rattle.crossing.proofs.Carries.{step_crosses}
 use Rattle.sindovaleph.proofs.sindovaleph_step.Goals as goal
 
 pub returns-in-Alone : goal.returns-in-Alone
-returns-in-Alone c = step_crosses (steps_alone _ _ _ _ _ _ (rw c.in-Alone.is at c.first.ensures)) refl
+returns-in-Alone c = step_crosses (steps_alone _ _ _ _ c.in-Alone.ensures) c.from.ensures
 
 pub returns-in-Ends : goal.returns-in-Ends
-returns-in-Ends c = step_crosses (steps_end _ _ _ _ (rw c.in-Ends.is at c.first.ensures)) refl
+returns-in-Ends c = step_crosses (steps_end _ _ _ _ c.in-Ends.ensures) refl

@@ -1,15 +1,14 @@
 -- `sindovaleph_entries` meets its contract: what is refused fills no row, and else all fields are filled in.
 -- Assumes nothing.
-use Rattle.aggregate.specs.Spanned.{Open}
-use Rattle.aggregate.proofs.Finding.{told}
+use mathlib.Core.Path.{sym}
 use Rattle.sindovaleph_entries.proofs.Listing.{lists_refused, lists_given}
 use Rattle.sindovaleph_entries.proofs.sindovaleph_entries.Goals as goal
 
-pub returns-in-Refused : goal.returns-in-Refused
-returns-in-Refused c = lists_refused _ _ (told _ c.overload.ensures c.in-Refused.is)
+pub fill_all-requires : goal.fill_all-requires
+fill_all-requires c = sym c.in-Ok.ensures
 
-pub returns-in-Is : goal.returns-in-Is
-returns-in-Is c =
-    let reads : Open c.args.message.now c.in-Is.named =
-    told _ c.overload.ensures c.in-Is.is in
-    lists_given _ _ reads c.fill_all.ensures
+pub returns-in-Ok : goal.returns-in-Ok
+returns-in-Ok c = lists_given _ _ (sym c.in-Ok.ensures) c.fill_all.ensures
+
+pub returns-in-Err : goal.returns-in-Err
+returns-in-Err c = lists_refused _ _ _ c.in-Err.ensures c.number.ensures

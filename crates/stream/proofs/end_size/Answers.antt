@@ -1,11 +1,14 @@
 -- `end_size` meets its contract: the chunk is at its end, or its next byte ends a size.
 -- Assumes nothing.
-use native.Mathlib.Omega.{arith}
-use Rattle.stream.proofs.Answers.{unended, ended}
+use Rattle.std.proofs.Common.{refl}
+use Rattle.std.proofs.lemmas.List.{nil_from_length}
+use Rattle.rfc.specs.Stream as rfc
 use Rattle.stream.proofs.end_size.Goals as goal
 
-pub returns-then-used-chunk : goal.returns-then-used-chunk
-returns-then-used-chunk c = unended _ _ _ _ c.if-used-chunk.true
+pub returns-in-Some : goal.returns-in-Some
+unfolding rfc.end_size
+returns-in-Some c = rw c.in-Some.ensures.cases.0 (rw c.be_u16.ensures at c.gather.ensures)
 
-pub returns : goal.returns
-returns c = ended _ _ _ _ _ (omega arith) c.be_u16-size.ensures c.gather.ensures
+pub returns-in-None : goal.returns-in-None
+unfolding rfc.end_size
+returns-in-None c = rw (nil_from_length _ c.in-None.ensures.cases, c.more.ensures) (record { tells = refl; used = refl; stands = refl; left = refl })

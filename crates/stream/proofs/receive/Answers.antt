@@ -1,17 +1,21 @@
 -- `receive` meets its contract, by where the stream stands.
 -- Assumes nothing.
-use borrow.Author.Rules.{rules}
-use Rattle.stream.proofs.Answers.{from_between, from_sizing, from_filling, from_shut}
+use Rattle.std.proofs.Common.{refl}
+use Rattle.rfc.specs.Stream as rfc
 use Rattle.stream.proofs.receive.Goals as goal
 
 pub returns-in-Between : goal.returns-in-Between
-returns-in-Between c = search (rules, from_between)
+unfolding rfc.receive
+returns-in-Between c = rw c.in-Between.is c.start_size.ensures
 
 pub returns-in-Sizing : goal.returns-in-Sizing
-returns-in-Sizing c = search (rules, from_sizing)
+unfolding rfc.receive
+returns-in-Sizing c = rw c.in-Sizing.is c.end_size.ensures
 
 pub returns-in-Filling : goal.returns-in-Filling
-returns-in-Filling c = search (rules, from_filling)
+unfolding rfc.receive
+returns-in-Filling c = rw c.in-Filling.is c.gather.ensures
 
 pub returns-in-Shut : goal.returns-in-Shut
-returns-in-Shut c = search (rules, from_shut)
+unfolding rfc.receive
+returns-in-Shut c = rw (c.in-Shut.is, c.shut.ensures) (record { tells = refl; used = refl; stands = refl; left = refl })

@@ -1,11 +1,14 @@
 -- `start_size` meets its contract: the chunk is empty, or its first byte begins a size.
 -- Assumes nothing.
-use native.Mathlib.Omega.{arith}
-use Rattle.stream.proofs.Answers.{unstarted, started}
+use Rattle.std.proofs.Common.{refl}
+use Rattle.std.proofs.lemmas.List.{nil_from_length}
+use Rattle.rfc.specs.Stream as rfc
 use Rattle.stream.proofs.start_size.Goals as goal
 
-pub returns-then-chunk-eq0 : goal.returns-then-chunk-eq0
-returns-then-chunk-eq0 c = unstarted _ _ c.if-chunk-eq0.true
+pub returns-in-Some : goal.returns-in-Some
+unfolding rfc.start_size
+returns-in-Some c = rw c.in-Some.ensures.cases.0 c.end_size.ensures
 
-pub returns : goal.returns
-returns c = started _ _ (omega arith) c.end_size.ensures
+pub returns-in-None : goal.returns-in-None
+unfolding rfc.start_size
+returns-in-None c = rw (nil_from_length _ c.in-None.ensures.cases, c.more.ensures) (record { tells = refl; used = refl; stands = refl; left = refl })

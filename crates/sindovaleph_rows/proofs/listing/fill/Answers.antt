@@ -39,12 +39,10 @@ loop-k-preserved g c =
 
 pub returns-in-Stopped : goal.returns-in-Stopped
 returns-in-Stopped g c =
-    let l = c.loop-k in
-    lists_given _ _ _ _ c.if-area-gt-MOST_BYTES.false c.if-place-area.false l.invariant.wide _ _
-    (going_stop l.invariant c.loop-k-test.true (rw c.in-Stopped.is at c.in_ok-found.ensures))
+    lists_given _ _ _ _ c.if-area-gt-MOST_BYTES.false c.if-place-area.false c.loop-k.invariant.wide
+    (going_stop c.loop-k.invariant c.loop-k-test.true (rw c.in-Stopped.is at c.in_ok-found.ensures))
 
 pub returns : goal.returns
 returns g c =
-    let l = c.loop-k in
-    lists_given _ _ _ _ c.if-area-gt-MOST_BYTES.false c.if-place-area.false l.invariant.wide _ _
-    (going_full l.invariant l.auto.k-end c.loop-k-test.false)
+    lists_given _ _ _ _ c.if-area-gt-MOST_BYTES.false c.if-place-area.false c.loop-k.invariant.wide
+    (going_full c.loop-k.invariant c.loop-k.auto.k-end c.loop-k-test.false)
