@@ -31,7 +31,7 @@ pub trait Rows {
     ghost known: { (r : Self) → EachKnown (rows r) };
 }
 
-// The state of a pass over the rows. It is one type for both passes: with a type for each, the functions below would take less than they do.
+// The state of a pass over the rows. It is one type for both passes: with one for each, the functions below would take less than they do.
 #[derive(Clone, Copy)]
 pub struct Pass {
     // Why the value is refused, if it is. After a refusal nothing is done.
@@ -171,8 +171,8 @@ impl Pass {
         }
     }
 
-    // Puts one byte of a part, if one is to come and it fits. Where a part has more to come, the compiler goes from here to the next byte
-    // past the test that `open_part` makes of the same; with one `if` for both tests, or for the first two there, it made all of them.
+    // Puts one byte of a part, if one is to come and it fits. Here and in `open_part` the test of `part` has an `if` of its own: so the
+    // compiler goes on to the next byte of a part without it, and with one `if` for all tests it did not.
     #[tactic(auto, unfolding(crate::specs::Passes::added))]
     fn add(self, room: &mut [u8], byte: u8) -> Pass
         ensures { (result, room.new) ≡ added (self, room.old) byte }
