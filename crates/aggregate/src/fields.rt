@@ -38,7 +38,7 @@ pub fn overload(message: &[u8]) -> Result<usize, Refusal>
     Ok(named)
 }
 
-// Whether the message is read at all.
+// Whether the message is read at all. `header` tests the same behind each of its readers, and has no function for the test alone.
 #[tactic(auto, using(header::proofs::Readers::long_stops, header::proofs::Readers::short_stops))]
 pub(crate) fn check_read(message: &[u8]) -> Result<(), Refusal>
     ensures { MatchResult result (λ _. Whole message.now) (λ refusal. Stopped message.now refusal) }
