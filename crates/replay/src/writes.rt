@@ -84,7 +84,7 @@ fn write_number(room: &mut [u8], code: u8, kind: Kind, content: &[u8]) -> Option
 // A list: its count in two bytes, then its elements.
 fn write_list(room: &mut [u8], code: u8, kind: Kind, content: &[u8]) -> Option<usize> {
     let count = usize::from(decoder::u16_at(content, 0));
-    let elements = borrowed::part(content, 2, count * kind.element_size());
+    let elements = borrowed::part(content, 2, count.checked_mul(kind.element_size())?);
     let written = match kind {
         Kind::Addresses => lists::write_addresses(room, PLACE, code, u32s_of(elements).get(..count)?),
         Kind::Pairs => lists::write_pairs(room, PLACE, code, u32s_of(elements).get(..2 * count)?),
