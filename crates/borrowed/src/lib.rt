@@ -98,7 +98,8 @@ fn begin(area: &[u8], place: usize) -> Result<Begun, Refusal>
     Ok(read(area, at))
 }
 
-// The first place from `place` on that holds no Pad, or the area's end.
+// The first place from `place` on that holds no Pad, or the area's end. `portions` has such a loop too: each says what its own reading finds
+// there, and one for both would need a contract between, with a law for each, longer than the loop.
 #[tactic(auto, using(rfc::proofs::Places::pad_at))]
 fn skip_pads(area: &[u8], place: usize) -> usize
     requires { place ≤ length area.now }
