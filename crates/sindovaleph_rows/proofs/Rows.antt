@@ -7,6 +7,8 @@ use native.Mathlib.Decide.{dec_le}
 use mathlib.Core.List.{List, [], ◌∷◌, ◌++◌}
 use lib.ListN.{length, take, drop, length-drop}
 use lib.Seq.{length-take-le}
+use Rattle.facts.proofs.Cells.{stores, stores_over}
+use Rattle.facts.proofs.Over.{over_all}
 use Rattle.rfc.specs.Numbers.{Answer, given, needs, and_then}
 use Rattle.rfc.specs.Walk.{Found, option, room_for}
 use Rattle.rfc.specs.Values.{Mode, read}
@@ -89,6 +91,10 @@ module _ {area : List ℕ} {len place : ℕ} (i : Inside area len place) where
   reads_part mode code n h r t =
       subst (λ (v : List ℕ). ReadAs v (read_unjoined mode code (bytes_before area len place) n place) r) part_before
       (subst (λ (a : Answer rfc.Value). ReadAs (take (place - (place - len)) (drop (place - len) area)) a r) (sym (before_reads mode code n h)) t)
+
+-- numbers stored one behind the other are all of a row that has as many
+pub row_stored : (row numbers : List ℕ) → length numbers ≡ length row → stores row 0 numbers ≡ numbers
+row_stored row numbers e = stores_over row 0 numbers (omega arith) ∙ over_all row numbers e
 
 -- the numbers of an option whose bytes are there are its row: four, and four more for what it reads as
 module _ {area : List ℕ} {f : here.Found} (i : Inside area f.len f.place) where

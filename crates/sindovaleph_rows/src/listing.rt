@@ -65,7 +65,10 @@ impl Row for AsFound {
     ghost wide = { λ row. refl };
 
     fn put(self, row: &mut [usize], area: &[u8], found: Found) {
-        row.copy_from_slice(&[found.code as usize, found.parts, found.len, found.place]);
+        row[0] = found.code as usize;
+        row[1] = found.parts;
+        row[2] = found.len;
+        row[3] = found.place;
     }
 }
 
@@ -80,16 +83,14 @@ impl Row for AsRead {
 
     fn put(self, row: &mut [usize], area: &[u8], found: Found) {
         let value = Value::from(read_unjoined(area, found, self.strict));
-        row.copy_from_slice(&[
-            found.code as usize,
-            found.parts,
-            found.len,
-            found.place,
-            value.refused as usize,
-            value.kind as usize,
-            value.number as usize,
-            value.count,
-        ]);
+        row[0] = found.code as usize;
+        row[1] = found.parts;
+        row[2] = found.len;
+        row[3] = found.place;
+        row[4] = value.refused as usize;
+        row[5] = value.kind as usize;
+        row[6] = value.number as usize;
+        row[7] = value.count;
     }
 }
 
