@@ -7,7 +7,7 @@ use mathlib.Core.List.{List}
 use lib.Dec.{ltb}
 use lib.ListN.{length, set}
 use Rattle.std.proofs.Common.{◌⊎◌, inl, inr, true≢false}
-use borrow.Author.Tests.{le-ltb, lt-ltb, eq-eqb, ne_eqb, le-leb, lt-leb}
+use borrow.Author.Tests.{le-ltb, lt-ltb, eq-eqb, ne_eqb, lt-leb}
 use Rattle.std.specs.Prelude.{Option, Some, None, is_some, Result, Ok, Err}
 use Rattle.rfc.specs.Numbers.{refused, most_bytes, most_value, first_refusal}
 use Rattle.rfc.specs.Writing.{size_in_parts}

@@ -14,10 +14,9 @@ use Rattle.rfc.proofs.Elements.{listed_count}
 use Rattle.kinds.specs.declared.Kind.{Kind}
 use Rattle.kinds.specs.Kind.{number_of}
 use Rattle.kinds.proofs.Numbers.{same_kind}
-use Rattle.std.specs.Prelude.{Result, Ok, Err}
+use Rattle.std.specs.Prelude.{Result, Ok}
 use Rattle.std.proofs.lemmas.Option.{unwrap_or-slice_get}
 use Rattle.refusal.specs.declared.Refusal.{Refusal}
-use Rattle.refusal.specs.Told as refusal
 use Rattle.values.specs.Reading.{says, count_of, Named, Tells, ReadAs, Right}
 use Rattle.values.specs.declared.answer.Value.{Value}
 
