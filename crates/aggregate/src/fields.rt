@@ -27,7 +27,7 @@ pub struct Spans {
     pub sname: usize,
 }
 
-// What option 52 of the options field says: 1 file, 2 sname, 3 both; 0 where there is none.
+// What option 52 of the options field says: 1 file, 2 sname, 3 both; 0 where there is none, as the definition `overload_of` has it.
 pub fn overload(message: &[u8]) -> Result<usize, Refusal>
     ensures { told result ≡ overload_of message.now }
 {

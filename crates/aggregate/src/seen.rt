@@ -8,7 +8,8 @@ use crate::opened::Opened;
 use header::Header;
 use portions::Portions;
 
-// How many codes were seen, and the one that is asked for, 0 until it is.
+// How many codes were seen, and the one that is asked for, 0 until it is: no part has that code, and the definition `entry` asks for the
+// option of 0 behind the last.
 #[derive(Clone, Copy, Debug, PartialEq, Eq)]
 pub struct Seen {
     codes: usize,

@@ -1,4 +1,5 @@
-// The walk over an area of options that is lent, as the crate's `DhcpOptionIterator::next` has it, by value: one call from a place.
+// The walk over an area of options that is lent, as the crate's `DhcpOptionIterator::next` has it, by value: one call from a place. The area
+// and the place are two parameters, as the calls from C have them; `lent` has a walk that keeps its place.
 #![tactic(auto)]
 
 pub mod answer;
