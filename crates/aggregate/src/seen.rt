@@ -22,6 +22,7 @@ impl Opened<'_> {
         ensures { result ≡ get_or (codes_of (aggregate (fields_of self.entry.message.now))) index 0 }
     {
         let at = self.spans();
+        // A mark for each code: there is no heap, and a set of 256 bits is no plainer.
         let mut marks = [0u8; 256];
         let none = Seen { codes: 0, code: 0 };
         let options = see(self.message, at.options, &mut marks, index, none);

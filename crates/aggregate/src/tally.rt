@@ -6,7 +6,8 @@ ghost use Rattle.aggregate.specs.Tallies.{Few, counted, none as no_parts};
 use portions::Portions;
 use refusal::Refusal;
 
-// What was counted of one code: how many parts, how many bytes, the place behind the last; 0 where there is none.
+// What was counted of one code: how many parts, how many bytes, the place behind the last; 0 where there is none, as
+// the definition `none` has it.
 #[derive(Clone, Copy, Debug, PartialEq, Eq)]
 pub struct Tally {
     pub parts: usize,

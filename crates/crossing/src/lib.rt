@@ -32,7 +32,7 @@ impl From<Result<usize, Refusal>> for Field {
     }
 }
 
-// A call of the walk from `place`.
+// A call of the walk from `place`. The place comes from the caller: so this and `written_of` are functions, and no conversions.
 pub fn step_of(call: Result<Call, Refusal>, place: usize) -> Step
     ensures { result ≡ step_here place call }
 {
@@ -73,7 +73,7 @@ impl From<Found> for Step {
     }
 }
 
-// The stops by their numbers.
+// The stops by their numbers. A conversion would have to stand with `Stop`, in a crate that knows no numbers.
 pub fn stop_number(stop: Stop) -> u8
     ensures { result ≡ stop_number (stop_of stop) }
 {

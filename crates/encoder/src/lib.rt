@@ -150,7 +150,8 @@ fn copy(from: &[u8], to: &mut [u8], place: usize)
     copy_bytes(from, to, place);
 }
 
-// Copies all of `from`, 16 bytes or more, into `to` at `place`.
+// Copies all of `from`, 16 bytes or more, into `to` at `place`. The index goes by blocks, up to the last, which begins wherever the bytes end: a
+// chain of chunks would leave that one over.
 fn copy_blocks(from: &[u8], to: &mut [u8], place: usize)
     requires { (16 ≤ length from.now) × (place + length from.now ≤ length to.old) }
     ensures { to.new ≡ over to.old place from.now }

@@ -183,7 +183,7 @@ fn say_reading(
             },
         ) => println!(rt; ": addresses {count}"),
         Ok(Whole::Valued { .. }) => println!(rt),
-        Ok(Whole::Stopped(_, _)) => println!(rt; ": no value"),
+        Ok(Whole::Stopped(_, _)) | Err(Refusal::JoinTooShort(_)) => println!(rt; ": no value"),
         Err(refusal) => say_refused(rt, refusal),
     }
 }

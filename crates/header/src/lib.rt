@@ -59,7 +59,7 @@ pub struct Fields {
 }
 
 // Figure 1: where each field begins and how many bytes it has, and a reader for each. Other crates cite these numbers one by one, and call
-// the readers by their names.
+// the readers by their names; where a field begins and its size stand together in one reader alone.
 #[derive(Drop)]
 pub struct Header {}
 

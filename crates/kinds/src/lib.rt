@@ -388,7 +388,8 @@ fn last(code: u8) -> Kind
     Kind::Raw
 }
 
-// The bytes in one element of the kind with a number; a number that is no kind has none.
+// The bytes in one element of the kind with a number; a number that is no kind has none. It takes any number, for who has one from C; who has
+// a kind asks that.
 #[tactic(auto, using(rfc::proofs::Codes::size_past))]
 pub fn element_size(kind: u8) -> usize
     ensures { result ≡ size_of kind }

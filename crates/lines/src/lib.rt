@@ -55,7 +55,7 @@ pub fn write_listing(room: &mut [u8], place: usize, message: &[u8]) -> Result<us
     pen::write(room, place, &Listing { message })
 }
 
-// Adds the line of a refusal.
+// Adds the line of a refusal, by its number: any number is told.
 pub fn put_refused(pen: &mut Pen, number: u8)
     ensures { Added pen.old pen.new (refused_line number) }
 {

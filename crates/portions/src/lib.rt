@@ -58,6 +58,7 @@ impl Iterator for Portions<'_> {
 }
 
 // The first place from `at` on that holds no Pad; where there is none, one behind the bytes.
+// (`borrowed` has such a loop too, and says why.)
 fn skip_pads(bytes: &[u8], at: usize) -> usize
     ensures { PadsPassed bytes.now at result }
 {

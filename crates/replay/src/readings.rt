@@ -1,5 +1,5 @@
 // The plain reading of a value, told as the crate's was recorded: the number of the value's kind and its content, or 255 and the number of
-// the refusal. A list is its count (2 bytes) and its elements.
+// the refusal. A list is its count (2 bytes) and its elements. A record has a code and a value, which are handed on as they are.
 use crate::pages::Page;
 use crossing::answers::{Element, Value};
 use kinds::Kind;

@@ -13,7 +13,7 @@ ghost use Rattle.header.specs.Header.{all_of};
 ghost use Rattle.crossing.specs.Carried.{field_of, Stepped, Wrote};
 ghost use Rattle.sindovaleph.specs.Boundary.{version};
 
-use borrowed::answer::First;
+use borrowed::answer::{First, Stop};
 use crossing::answers::{Field, Step, Written};
 use header::{Fields, Header};
 
@@ -63,7 +63,7 @@ pub fn sindovaleph_step(area: &[u8], place: usize, join: &mut [u8]) -> Step
         First::Alone(found) => Step::from(found),
         First::Ends(to) => Step {
             refused: 0,
-            stop: 2,
+            stop: crossing::stop_number(Stop::End),
             code: 0,
             parts: 0,
             len: 0,

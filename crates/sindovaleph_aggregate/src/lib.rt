@@ -8,7 +8,7 @@ ghost use Rattle.crossing.specs.Carried.{field_of, Steps};
 
 use crossing::answers::{Field, Step};
 
-// What option 52 of the options field says: 1 file, 2 sname, 3 both; 0 where there is none.
+// What option 52 of the options field says: 1 file, 2 sname, 3 both; 0 where there is none, as the definition has it.
 pub fn sindovaleph_overload(message: &[u8]) -> Field
     ensures { result ≡ field_of (rfc.overload_of message.now) }
 {
