@@ -2,11 +2,12 @@
 // over once: a mark for each code says which row is its own.
 #![tactic(auto)]
 
-ghost use Rattle.std.specs.Prelude.{◌≡◌, drop, get_or};
+ghost use Rattle.std.specs.Prelude.{◌≡◌, ◌≤◌, ◌+◌, length, drop, get_or};
+ghost use Rattle.facts.specs.Over.{over};
 ghost use Rattle.rfc.specs.Portions.{portions, parts_in};
 ghost use Rattle.aggregate.specs.Spanned.{Open};
 ghost use Rattle.sindovaleph_entries.specs.Rows.{ListsEntries};
-ghost use Rattle.sindovaleph_entries.specs.Filling.{sheet_of, puts, fills, Puts, Fills, FillsAll, extended, Extends};
+ghost use Rattle.sindovaleph_entries.specs.Filling.{sheet_of, first_row, puts, fills, Puts, Fills, FillsAll, extended, Extends};
 
 use aggregate::fields;
 use header::Header;
@@ -90,12 +91,22 @@ impl Seen {
             return;
         }
         if self.codes < rows.len() / 4 {
-            let row = 4 * self.codes;
-            rows[row..row + 4].copy_from_slice(&[part.code as usize, 1, part.len, part.place]);
+            put_row(rows, 4 * self.codes, part);
         }
         self.codes += 1;
         self.marks[part.code as usize] = self.codes as u8;
     }
+}
+
+// Puts the row of a code's first part at `row`: stores one by one, since a slice copied from an array goes through memory.
+fn put_row(rows: &mut [usize], row: usize, part: Portion)
+    requires { row + 4 ≤ length rows.old }
+    ensures { rows.new ≡ over rows.old row (first_row part.code part.len part.place) }
+{
+    rows[row] = part.code as usize;
+    rows[row + 1] = 1;
+    rows[row + 2] = part.len;
+    rows[row + 3] = part.place;
 }
 
 // A further part in the row at `row`. One with no byte is passed by a branch of its own: there may be tens of thousands of them.
