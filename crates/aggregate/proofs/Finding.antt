@@ -12,7 +12,7 @@ use Rattle.rfc.specs.Aggregate.{fields_of, aggregate, codes_of, option_of, overl
 use Rattle.rfc.proofs.Numbers.{Clear, passes, needs_no, pad-code, end-code, a_code}
 use Rattle.rfc.proofs.Header.{message_read}
 use Rattle.rfc.proofs.Aggregate.{find_unread, find_no_code, find_refused, find_given, entry_refused, entry_given}
-use Rattle.refusal.specs.Told.{says, told}
+use Rattle.refusal.specs.Told.{says}
 use Rattle.refusal.specs.declared.Refusal.{Refusal}
 use Rattle.refusal.specs.declared.Refusal.TheVariants.{NoSuchCode}
 use Rattle.refusal.proofs.Told.{says_as}
@@ -29,11 +29,7 @@ refusal : {message join : List ℕ} (e : Refusal) {a : Answer Found} → says e 
 refusal {join = join} e s =
     record { told = s; inside = tt; kept = sym (ap (λ (x : Answer Found). join_after x join) (sym s) ∙ says_keeps join e) }
 
--- what option 52 says of a message, back from its answer
-pub said : (message : List ℕ) {r s : Result ℕ Refusal} → told r ≡ overload_of message → r ≡ s → overload_of message ≡ told s
-said message e i = sym e ∙ ap told i
-
--- what refuses it refuses every other answer that it refuses by its number
+-- what refuses option 52's answer refuses every other answer that it refuses by its number
 closed : (message : List ℕ) (a : Answer Found) → ((k : ℕ) → overload_of message ≡ refused k → a ≡ refused k)
     → (e : Refusal) → says e ≡ overload_of message → says e ≡ a
 unfolding overload_of

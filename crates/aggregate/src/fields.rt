@@ -27,7 +27,7 @@ pub struct Spans {
     pub sname: usize,
 }
 
-// What option 52 of the options field says: 1 file, 2 sname, 3 both; 0 where there is none.
+// What option 52 of the options field says: 1 file, 2 sname, 3 both; 0 where there is none, as the definition `overload_of` has it.
 pub fn overload(message: &[u8]) -> Result<usize, Refusal>
     ensures { told result ≡ overload_of message.now }
 {
@@ -38,7 +38,7 @@ pub fn overload(message: &[u8]) -> Result<usize, Refusal>
     Ok(named)
 }
 
-// Whether the message is read at all.
+// Whether the message is read at all. `header` tests the same behind each of its readers, and has no function for the test alone.
 #[tactic(auto, using(header::proofs::Readers::long_stops, header::proofs::Readers::short_stops))]
 pub(crate) fn check_read(message: &[u8]) -> Result<(), Refusal>
     ensures { MatchResult result (λ _. Whole message.now) (λ refusal. Stopped message.now refusal) }

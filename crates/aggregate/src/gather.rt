@@ -12,6 +12,7 @@ use crate::tally;
 use crate::tally::Tally;
 use borrowed::answer::{Found, Step, Stop};
 use header::Header;
+use portions::Portions;
 use refusal::Refusal;
 
 impl Opened<'_> {
@@ -71,15 +72,14 @@ fn join_field(bytes: &[u8], start: usize, code: u8, join: &mut [u8], to: usize) 
     ensures { (join.new ≡ over join.old to (value_in bytes.now start code))
         × (result ≡ to + length (value_in bytes.now start code)) }
 {
-    let mut at = start;
     let mut end = to;
-    while let Some(part) = portions::portion_at(bytes, at).unwrap() {
+    for part in (Portions { bytes, at: start }) {
+        let part = part.unwrap();
         if part.code == code {
             let value = &bytes[part.place - part.len..part.place];
             let _ = encoder::write_slice(&mut join[end..end + part.len], 0, value);
             end += part.len;
         }
-        at = part.place;
     }
     end
 }

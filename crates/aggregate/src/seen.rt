@@ -6,8 +6,10 @@ ghost use Rattle.aggregate.specs.Marked.{sees, Sees};
 
 use crate::opened::Opened;
 use header::Header;
+use portions::Portions;
 
-// How many codes were seen, and the one that is asked for, 0 until it is.
+// How many codes were seen, and the one that is asked for, 0 until it is: no part has that code, and the definition `entry` asks for the
+// option of 0 behind the last.
 #[derive(Clone, Copy, Debug, PartialEq, Eq)]
 pub struct Seen {
     codes: usize,
@@ -41,16 +43,16 @@ impl Opened<'_> {
     }
 }
 
-// Goes over the field that begins at `start`, which is whole: a code that has no mark is marked and counted, and it is the one that is asked for where
-// `index` codes came before it.
+// Goes over the field that begins at `start`, which is whole: a code that has no mark is marked and counted, and it is the one that is asked
+// for where `index` codes came before it.
 fn see(bytes: &[u8], start: usize, marks: &mut [u8], index: usize, before: Seen) -> Seen
     requires { Sees bytes.now start marks.old before }
     ensures { (marks.new, result)
         ≡ sees index (marks.old, before) (parts_in (portions start (drop start bytes.now))) }
 {
-    let mut at = start;
     let mut seen = before;
-    while let Some(part) = portions::portion_at(bytes, at).unwrap() {
+    for part in (Portions { bytes, at: start }) {
+        let part = part.unwrap();
         if marks[part.code as usize] == 0 {
             marks[part.code as usize] = 1;
             if seen.codes == index {
@@ -58,7 +60,6 @@ fn see(bytes: &[u8], start: usize, marks: &mut [u8], index: usize, before: Seen)
             }
             seen.codes += 1;
         }
-        at = part.place;
     }
     seen
 }

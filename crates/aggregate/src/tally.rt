@@ -3,6 +3,7 @@ ghost use Rattle.std.specs.Prelude.{◌≡◌, drop};
 ghost use Rattle.rfc.specs.Portions.{portions};
 ghost use Rattle.aggregate.specs.Tallies.{Few, counted, none as no_parts};
 
+use portions::Portions;
 use refusal::Refusal;
 
 // What was counted of one code: how many parts, how many bytes, the place behind the last; 0 where there is none.
@@ -24,14 +25,15 @@ pub(crate) fn none() -> Tally
     }
 }
 
-// Counts the parts of `code` in the field that begins at `start`, behind what was counted before. Of a field that is cut nothing is counted.
+// Counts the parts of `code` in the field that begins at `start`, behind what was counted before. Of a field that is cut nothing is
+// counted.
 pub(crate) fn count(bytes: &[u8], start: usize, code: u8, before: Tally) -> Result<Tally, Refusal>
     requires { Few before bytes.now }
     ensures { result ≡ counted code before (portions start (drop start bytes.now)) }
 {
-    let mut at = start;
     let mut counted = before;
-    while let Some(part) = portions::portion_at(bytes, at)? {
+    for part in (Portions { bytes, at: start }) {
+        let part = part?;
         if part.code == code {
             counted = Tally {
                 parts: counted.parts + 1,
@@ -39,7 +41,6 @@ pub(crate) fn count(bytes: &[u8], start: usize, code: u8, before: Tally) -> Resu
                 place: part.place,
             };
         }
-        at = part.place;
     }
     Ok(counted)
 }

@@ -1,4 +1,5 @@
-// The walk over an area of options that is lent, as the crate's `DhcpOptionIterator::next` has it, by value: one call from a place.
+// The walk over an area of options that is lent, as the crate's `DhcpOptionIterator::next` has it, by value: one call from a place. The area
+// and the place are two parameters, as the calls from C have them; `lent` has a walk that keeps its place.
 #![tactic(auto)]
 
 pub mod answer;
@@ -98,7 +99,8 @@ fn begin(area: &[u8], place: usize) -> Result<Begun, Refusal>
     Ok(read(area, at))
 }
 
-// The first place from `place` on that holds no Pad, or the area's end.
+// The first place from `place` on that holds no Pad, or the area's end. `portions` has such a loop too: each says what its own reading finds
+// there, and one for both would need a contract between, with a law for each, longer than the loop.
 #[tactic(auto, using(rfc::proofs::Places::pad_at))]
 fn skip_pads(area: &[u8], place: usize) -> usize
     requires { place ≤ length area.now }

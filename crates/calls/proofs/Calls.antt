@@ -28,7 +28,7 @@ use Rattle.calls.proofs.Made.{made_same}
 use Rattle.calls.specs.Calls.{WritesAll, closes, goes_on, ends, StepsTo, none, one, found_by, ListsBack, CallsRoundTrip}
 
 -- what the last call of a run of writes says of the run
-abbrev pub made : Result ℕ Refusal → List ℕ → Answer Made
+abbrev made : Result ℕ Refusal → List ℕ → Answer Made
 made (Ok to) room = finished room to
 made (Err e) room = says e
 

@@ -1,11 +1,10 @@
 -- What the reader of this crate answers, in the words of the definitions.
 -- Assumes nothing.
-use Rattle.std.specs.Prelude.{ℕ, ◌≡◌, List, length, Option, Some, None, ok_or, Result, Ok, Err}
-use Rattle.rfc.specs.Numbers.{Answer, given, and_then}
+use Rattle.std.specs.Prelude.{ℕ, ◌≡◌, List, length, Option, Some, None, Result, Ok, Err}
+use Rattle.rfc.specs.Numbers.{Answer, given, refused, and_then}
 use Rattle.rfc.specs.Routes as rfc
-use Rattle.rfc.specs.Classless.{RouteThere, no_route, route, read_routes, route_at}
+use Rattle.rfc.specs.Classless.{RouteThere, no_route, route, read_routes, route_at, route_from}
 use Rattle.refusal.specs.declared.Refusal.{Refusal}
-use Rattle.refusal.specs.declared.Refusal.TheVariants.{PastEnd}
 use Rattle.refusal.specs.Told.{says}
 use Rattle.classless.specs.declared.Route.{Route}
 use Rattle.classless.specs.declared.Row.{Row}
@@ -29,12 +28,16 @@ there (Some row) = route (route_of row.route) row.place
 unfoldable pub how_many : Answer (List rfc.Route) → Answer ℕ
 how_many routes = and_then routes (λ (rs : List rfc.Route). given (length rs))
 
--- the route that a scan has kept; 4: there is none at the index
-abbrev pub kept : Result Scan Refusal → Result Route Refusal
-kept (Ok s) = ok_or s.route PastEnd
-kept (Err e) = Err e
+-- the route that begins at a place; 4: there is none
+abbrev pub route_there : RouteThere → Answer rfc.Route
+route_there no_route = refused 4
+route_there (route r to) = given r
 
--- a scan of a value says what the reader says
+-- a scan of a value says what the reader says: how many routes there are, and by its place the one at the index
+abbrev pub Placed : ℕ → List ℕ → Result Scan Refusal → Type 0
+Placed index v (Ok s) = and_then (route_from v s.place) route_there ≡ route_at index v
+Placed index v (Err e) = says e ≡ route_at index v
+
 pub record Scanned (index : ℕ) (v : List ℕ) (r : Result Scan Refusal) : Type 0 where
   pub count : told_by (λ (s : Scan). s.count) r ≡ how_many (read_routes v)
-  pub route : told_by route_of (kept r) ≡ route_at index v
+  pub placed : Placed index v r

@@ -46,11 +46,12 @@ pub struct Row {
     pub place: usize,
 }
 
-// What was seen of the rows of a value: how many there are, and the route at the index that was looked for, if there is one.
+// What was seen of the rows of a value: how many there are, and the place of the one at the index that was looked for; where there is none,
+// the end.
 #[derive(Drop)]
 struct Scan {
     count: usize,
-    route: Option<Route>,
+    place: usize,
 }
 
 // The row that begins at `place`, if the value does not end there. Behind a width there are four bytes or more, so that the destination is
@@ -101,21 +102,24 @@ pub fn route_at(value: &[u8], index: usize) -> Result<Route, Refusal>
     ensures { told_by route_of result ≡ read.route_at index value.now }
 {
     let scan = scan_rows(value, index)?;
-    scan.route.ok_or(Refusal::PastEnd)
+    match route_from(value, scan.place)? {
+        Some(row) => Ok(row.route),
+        None => Err(Refusal::PastEnd),
+    }
 }
 
-// All rows of `value`, counted, and the route at `index` kept.
+// All rows of `value`, counted, and the place of the one at `index`.
 fn scan_rows(value: &[u8], index: usize) -> Result<Scan, Refusal>
     ensures { Scanned index value.now result }
 {
     let mut scan = Scan {
         count: 0,
-        route: None,
+        place: value.len(),
     };
     let mut at = 0;
     while let Some(row) = route_from(value, at)? {
         if scan.count == index {
-            scan.route = Some(row.route);
+            scan.place = at;
         }
         scan.count += 1;
         at = row.place;
@@ -136,12 +140,13 @@ fn masked(width: u8, address: u32) -> u32
     (address >> n) << n
 }
 
-// How many bytes of a destination are written.
+// How many bytes of a destination are written. The sum does not overflow; with `div_ceil`, which looks at the remainder, it took a third
+// longer to count routes.
 #[tactic(auto, using(rfc::proofs::Routes::significant_is))]
 pub fn significant(width: u8) -> usize
     ensures { result ≡ min 4 (rfc.significant width) }
 {
-    usize::from(width).div_ceil(8).min(ADDRESS)
+    ((usize::from(width) + 7) / 8).min(ADDRESS)
 }
 
 // Puts the bytes of one route: its width, the significant bytes of its destination, its gateway.

@@ -1,5 +1,5 @@
 // How answers cross the boundary. `refused` is the number of a refusal, 0 for none; where one is given, every other number is 0, unless
-// something else is said.
+// something else is said. C has neither an option nor an answer that may be refused: so these are numbers, as are a stop and a kind.
 
 // One field of the header.
 #[repr(C)]

@@ -174,12 +174,25 @@ fn copy_bytes(from: &[u8], to: &mut [u8], place: usize)
     }
 }
 
-// Copies the `N` bytes of `from` at `i` into `to` at `at`. The compiler knows how many they are, and makes one load and one store of it.
+// Copies the `N` bytes of `from` at `i` into `to` at `at`. They are read before they are stored, so that the compiler makes one load and one
+// store of it.
 fn block<const N: usize>(from: &[u8], i: usize, to: &mut [u8], at: usize)
     requires { (i + N ≤ length from.now) × (at + N ≤ length to.old) }
     ensures { to.new ≡ over to.old at (take N (drop i from.now)) }
 {
-    put_bytes(to, at, &from[i..i + N]);
+    let bytes: [u8; N] = array(from, i);
+    put_bytes(to, at, &bytes);
+}
+
+// The `N` bytes of `from` at `i`.
+fn array<const N: usize>(from: &[u8], i: usize) -> [u8; N]
+    requires { i + N ≤ length from.now }
+    ensures { result ≡ take N (drop i from.now) }
+{
+    let Some(bytes) = from[i..i + N].first_chunk() else {
+        unreachable!();
+    };
+    *bytes
 }
 
 // Puts bytes at `at`.

@@ -176,10 +176,12 @@ fn say_reading(
     print!(rt; "{mode}")?;
     say_all(rt, area)?;
     match read {
-        Ok(Whole::Valued {
-            value: Value::Addresses(count),
-            ..
-        }) => println!(rt; ": addresses {count}"),
+        Ok(
+            Whole::Valued {
+                value: Value::Addresses(count),
+                ..
+            },
+        ) => println!(rt; ": addresses {count}"),
         Ok(Whole::Valued { .. }) => println!(rt),
         Ok(Whole::Stopped(_, _)) => println!(rt; ": no value"),
         Err(refusal) => say_refused(rt, refusal),

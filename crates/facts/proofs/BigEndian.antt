@@ -9,7 +9,7 @@ use lib.Pow.{pow-add}
 use lib.Arith.{mod-mul, digits_lt, digits_div, digits_mod}
 use lib.Dec.{lit<}
 use lib.ListN.{length, get_or, take, drop, length-drop, take-append-drop}
-use lib.Seq.{take-take, length-take-le, take-append-le, drop-append-le}
+use lib.Seq.{length-take-le, take-append-le, drop-append-le}
 use borrow.Author.Tests.{le-leb, lt-leb}
 use Rattle.facts.specs.BigEndian.{number, number_from, number_at, digits}
 
@@ -82,16 +82,6 @@ writes_back h (x ∷ xs) b =
 -- one below 256 ^ w is the number of its w bytes
 pub number_digits : (w n : ℕ) → n < 256 ^ w → number (digits w n) ≡ n
 number_digits w n h = reads_back w 0 n ∙ omega (arith, mod-eq_of_lt h)
-
--- the first bytes of four: the highest, and then those of what is left when that is taken off at the top
-pub next_of_four : (n k : ℕ) → k ≤ 3 → take (suc k) (digits 4 n) ≡ n / 16777216 % 256 ∷ take k (digits 4 (n % 16777216 * 256))
-next_of_four n k h =
-    let high : ℕ = n / 16777216 % 256 in
-    let r : ℕ = n % 16777216 * 256 in
-    let b : n / 65536 % 256 ≡ r / 16777216 % 256 = omega arith in
-    let c : n / 256 % 256 ≡ r / 65536 % 256 = omega arith in
-    let d : n / 1 % 256 ≡ r / 256 % 256 = omega arith in
-    ap (take (suc k)) (λ i. high ∷ b i ∷ c i ∷ d i ∷ []) ∙ ap (λ (l : List ℕ). high ∷ l) (take-take k 3 (digits 4 r) h)
 
 -- a number by its first bytes and those behind them
 pub number_split : (a b : List ℕ) → number (a ++ b) ≡ number a * 256 ^ length b + number b

@@ -7,11 +7,10 @@ use native.Mathlib.Nat.{add-suc}
 use native.Mathlib.Numerals.{add-one}
 use native.Mathlib.Omega.{arith}
 use lib.ListN.{length, get_or, take, drop, set, length-append}
-use lib.Seq.{take_all, drop-cons}
-use Rattle.facts.specs.BigEndian.{number, number_at}
+use lib.Seq.{drop-cons}
+use Rattle.facts.specs.BigEndian.{number}
 use Rattle.facts.specs.Over.{over}
 use Rattle.facts.proofs.Over.{over_nil, over_over, set_over, length_over}
-use Rattle.facts.proofs.BigEndian.{number_there}
 
 -- the w bytes at at + i, at + i + 1 and so on
 abbrev pub cells_from : List ℕ → ℕ → ℕ → ℕ → List ℕ
@@ -41,10 +40,6 @@ part_cells s at (suc w) h =
 -- and is the number that they are
 cells_number : (s : List ℕ) (at w : ℕ) → at + w ≤ length s → number (cells s at w) ≡ number (take w (drop at s))
 cells_number s at w there = ap number (sym (part_cells s at w there))
-
--- the one at that place
-pub cells_at : (s : List ℕ) (at w : ℕ) → at + w ≤ length s → number (cells s at w) ≡ number_at w s at
-cells_at s at w there = cells_number s at w there ∙ sym (number_there w s at there)
 
 -- one byte is its number
 pub byte_at : (s : List ℕ) (at : ℕ) → at + 1 ≤ length s → get_or s at 0 ≡ number (take 1 (drop at s))
@@ -79,10 +74,3 @@ pub stores_over : (d : List ℕ) (at : ℕ) (bs : List ℕ) → at + length bs �
 stores_over d at [] h = sym (over_nil d at)
 stores_over d at (b ∷ bs) h =
     ap (λ (x : List ℕ). stores_from x at 1 bs) (set_over d at b (omega arith)) ∙ stored_from d at (b ∷ []) 1 bs refl (omega arith)
-
--- and those of all bytes of a list are the write of it
-pub stores_cells : (d : List ℕ) (at : ℕ) (bs : List ℕ) (w : ℕ) → length bs ≡ w → at + w ≤ length d
-    → stores d at (cells bs 0 w) ≡ over d at bs
-stores_cells d at bs w e h =
-    let whole : bs ≡ cells bs 0 w = sym (take_all w bs (omega arith)) ∙ part_cells bs 0 w (omega arith) in
-    stores_over d at (cells bs 0 w) (omega (arith, ap length whole)) ∙ ap (over d at) (sym whole)

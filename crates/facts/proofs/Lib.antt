@@ -7,7 +7,6 @@ pub mod BigEndian
 pub mod Signs
 pub mod Cells
 pub mod Least
-pub mod Folds
 pub mod Unique
 pub mod Distinct
 pub mod Marks

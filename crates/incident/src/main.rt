@@ -56,18 +56,16 @@ fn say_field(rt: &impl Print, name: &str, field: Result<usize, Refusal>) -> io::
 }
 
 // Where the hardware address stands, how many bytes of it are shown, and how many of these lie in its field.
-fn say_chaddr(
-    rt: &impl Print,
-    message: &[u8],
-    chaddr: Result<Chaddr, Refusal>,
-) -> io::Result<()> {
+fn say_chaddr(rt: &impl Print, message: &[u8], chaddr: Result<Chaddr, Refusal>) -> io::Result<()> {
     match chaddr {
-        Ok(Chaddr {
-            start,
-            len,
-            own,
-            spills,
-        }) => {
+        Ok(
+            Chaddr {
+                start,
+                len,
+                own,
+                spills,
+            },
+        ) => {
             let shown = borrowed::part(message, start, len).len();
             print!(rt; "chaddr from {start} bytes {shown}, {own} in the field")?;
             if spills {

@@ -17,7 +17,7 @@ use pen::{Pen, Show};
 use refusal::Refusal;
 
 // A message that is listed in this reading.
-#[derive(Clone, Copy)]
+#[derive(Drop)]
 struct Joined<'a> {
     message: &'a [u8],
 }
@@ -25,6 +25,7 @@ struct Joined<'a> {
 impl<'a> Show for Joined<'a> {
     ghost text = { λ it. joined_listing it.message.now };
 
+    #[tactic(auto, using(crate::proofs::Telling::joined_long, crate::proofs::Telling::joined_whole))]
     fn show(&self, pen: &mut Pen) {
         if self.message.len() > MOST_LISTED {
             pen.word(b"too long\n");
@@ -43,6 +44,7 @@ pub fn write_joined(room: &mut [u8], place: usize, message: &[u8]) -> Result<usi
 }
 
 // Adds the lines of a message, or the one that stands in their place.
+#[tactic(auto, using(crate::proofs::Telling::lines_refused), unfolding(crate::specs::Joined::joined_lines))]
 fn put_lines(pen: &mut Pen, message: &[u8])
     ensures { Added pen.old pen.new (joined_lines message.now (rfc.area message.now)) }
 {
@@ -54,6 +56,7 @@ fn put_lines(pen: &mut Pen, message: &[u8])
 }
 
 // Adds the lines of the fields that option 52 names.
+#[tactic(auto, using(crate::proofs::Telling::fields_refused), unfolding(crate::specs::Joined::fields_lines))]
 fn put_fields(pen: &mut Pen, message: &[u8])
     ensures { Added pen.old pen.new (fields_lines message.now (overload_of message.now)) }
 {
@@ -81,6 +84,7 @@ fn fields_line(named: usize) -> &'static [u8]
 }
 
 // Adds a line for each code, and how many there are, in no more calls than the message has bytes.
+#[tactic(auto, using(lines::proofs::Resting::begins))]
 fn put_entries(pen: &mut Pen, message: &[u8], join: &mut [u8])
     ensures { Added pen.old pen.new (entries_in (length message.now) (length join.old) message.now 0) }
 {

@@ -7,7 +7,7 @@ use mathlib.Core.List.{List}
 use lib.Dec.{ltb}
 use lib.ListN.{length, set}
 use Rattle.std.proofs.Common.{◌⊎◌, inl, inr, true≢false}
-use borrow.Author.Tests.{le-ltb, lt-ltb, eq-eqb, ne_eqb, le-leb, lt-leb}
+use borrow.Author.Tests.{le-ltb, lt-ltb, eq-eqb, ne_eqb, lt-leb}
 use Rattle.std.specs.Prelude.{Option, Some, None, is_some, Result, Ok, Err}
 use Rattle.rfc.specs.Numbers.{refused, most_bytes, most_value, first_refusal}
 use Rattle.rfc.specs.Writing.{size_in_parts}
@@ -117,10 +117,6 @@ module _ (p : Pass) (room : List ℕ) where
   unfolding opened
   opened_inside h = rw (lt-ltb 0 p.part h)
 
-  pub opened_full : p.part ≤ 0 → length room < p.at + 2 → opened (p, room) ≡ (p, room)
-  unfolding opened
-  opened_full h g = rw (le-ltb 0 p.part h, lt-ltb (length room) (p.at + 2) g)
-
   pub opened_head : (n : ℕ) → p.part ≤ 0 → p.at + 2 ≤ length room → n ≡ min p.most p.len
       → opened (p, room) ≡ (headed n p, set (set room p.at p.code) (p.at + 1) n)
   unfolding opened
@@ -130,10 +126,6 @@ module _ (p : Pass) (room : List ℕ) where
     pub added_outside : p.part ≡ 0 → added (p, room) byte ≡ (p, room)
     unfolding added
     added_outside h = rw (eq-eqb p.part 0 h)
-
-    pub added_full : (p.part ≡ 0 → ⊥) → length room ≤ p.at → added (p, room) byte ≡ (p, room)
-    unfolding added
-    added_full h g = rw (ne_eqb p.part 0 h, le-leb (length room) p.at g)
 
     pub added_byte : (p.part ≡ 0 → ⊥) → p.at < length room → added (p, room) byte ≡ (onward p, set room p.at byte)
     unfolding added

@@ -31,7 +31,7 @@ pub trait Rows {
     ghost known: { (r : Self) → EachKnown (rows r) };
 }
 
-// The state of a pass over the rows. It is one type for both passes: with a type for each, the functions below would take less than they do.
+// The state of a pass over the rows. It is one type for both passes: with one for each, the functions below would take less than they do.
 #[derive(Clone, Copy)]
 pub struct Pass {
     // Why the value is refused, if it is. After a refusal nothing is done.
@@ -154,7 +154,10 @@ impl Pass {
         ensures { (result, room.new) ≡ opened (self, room.old) }
     {
         let at = self.at;
-        if self.part > 0 || room.len() < 2 || at > room.len() - 2 {
+        if self.part > 0 {
+            return self;
+        }
+        if room.len() < 2 || at > room.len() - 2 {
             return self;
         }
         let n = parts::next_piece(self.len, self.most as usize);
@@ -168,13 +171,17 @@ impl Pass {
         }
     }
 
-    // Puts one byte of a part, if one is to come and it fits.
+    // Puts one byte of a part, if one is to come and it fits. Here and in `open_part` the test of `part` has an `if` of its own: so the
+    // compiler goes on to the next byte of a part without it, and with one `if` for all tests it did not.
     #[tactic(auto, unfolding(crate::specs::Passes::added))]
     fn add(self, room: &mut [u8], byte: u8) -> Pass
         ensures { (result, room.new) ≡ added (self, room.old) byte }
     {
         let at = self.at;
-        if self.part == 0 || at >= room.len() {
+        if self.part == 0 {
+            return self;
+        }
+        if at >= room.len() {
             return self;
         }
         room[at] = byte;

@@ -1,6 +1,6 @@
 -- A whole text that a pen adds part by part: what it has added so far stands in front of the rest.
 -- Assumes nothing.
-use mathlib.Core.Path.{◌≡◌, refl, ap, ◌∙◌}
+use mathlib.Core.Path.{◌≡◌, ap, ◌∙◌}
 use Prim.Native.Nat.{ℕ}
 use mathlib.Core.List.{List, [], ◌++◌, append_assoc}
 use Rattle.pen.specs.declared.Pen.{Pen}
@@ -12,8 +12,8 @@ pub record Resting (old new : Pen) (whole rest : List ℕ) : Type 0 where
   pub added : Added old new so_far
   pub all : so_far ++ rest ≡ whole
 
-pub begins : (p : Pen) (whole : List ℕ) → Resting p p whole whole
-begins p whole = record { so_far = []; added = nothing p; all = refl }
+pub begins : (p : Pen) {whole rest : List ℕ} → rest ≡ whole → Resting p p whole rest
+begins p e = record { so_far = []; added = nothing p; all = e }
 
 module _ {p q r : Pen} {whole rest : List ℕ} (s : Resting p q whole rest) where
   pub goes_on : (part next : List ℕ) → Added q r part → part ++ next ≡ rest → Resting p r whole next

@@ -22,7 +22,7 @@ use refusal::Refusal;
 pub const MOST_LISTED: usize = 4096;
 
 // A message that is listed.
-#[derive(Clone, Copy)]
+#[derive(Drop)]
 struct Listing<'a> {
     message: &'a [u8],
 }
@@ -30,6 +30,7 @@ struct Listing<'a> {
 impl<'a> Show for Listing<'a> {
     ghost text = { λ it. listing it.message.now };
 
+    #[tactic(auto, using(crate::proofs::Telling::listing_long, crate::proofs::Telling::listing_short))]
     fn show(&self, pen: &mut Pen) {
         if self.message.len() > MOST_LISTED {
             pen.word(b"too long\n");
@@ -63,6 +64,7 @@ pub fn put_refused(pen: &mut Pen, number: u8)
 }
 
 // Adds the line of the message's length and of four numbers of its header, none of which is refused.
+#[tactic(auto, using(crate::proofs::Telling::field_given))]
 fn put_message(pen: &mut Pen, message: &[u8])
     requires { Listed message.now }
     ensures { Added pen.old pen.new (message_line message.now) }
@@ -95,6 +97,7 @@ fn put_address(pen: &mut Pen, message: &[u8])
 }
 
 // Adds the lines of the options.
+#[tactic(auto, using(crate::proofs::Telling::area_refused), unfolding(crate::specs::Listing::area_lines))]
 fn put_area(pen: &mut Pen, message: &[u8])
     ensures { Added pen.old pen.new (area_lines message.now (rfc.area message.now)) }
 {
@@ -110,6 +113,7 @@ fn put_area(pen: &mut Pen, message: &[u8])
 }
 
 // Adds a line for each option, and the ending, in no more than so many calls of the walk.
+#[tactic(auto, using(crate::proofs::Resting::begins))]
 fn put_options(pen: &mut Pen, area: &[u8], join: &mut [u8], calls: usize)
     ensures { Added pen.old pen.new (lines_in calls (length join.old) area.now 0) }
 {

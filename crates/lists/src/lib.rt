@@ -1,5 +1,5 @@
 // The writers of lists whose elements have two bytes or more, as the crate's `encode_long_opt_chunks` has them: a list is cut at whole
-// elements, and an empty one writes nothing.
+// elements, and an empty one writes nothing. The room, the place and the code are parameters of each, as the calls from C have them.
 #![tactic(auto)]
 
 ghost use Rattle.std.specs.Prelude.{◌+◌, ◌*◌, ◌%◌, ◌≤◌, ◌≡◌, ◌&&◌, not, ◌∷◌, eqb, length};

@@ -72,9 +72,6 @@ pub record Judged (rows values room₀ : List ℕ) (place at index : ℕ) : Type
   pub would : List ℕ
   pub reached : Reached rows values room₀ place would at index
 
-pub reached_none : {rows values room : List ℕ} {place : ℕ} → place ≤ length room → Reached rows values room place room place 0
-reached_none h = record { same = refl; keeps = refl; within = h }
-
 module _ {rows values room₀ room : List ℕ} {place at index : ℕ} (reached : Reached rows values room₀ place room at index) where
   pub reached_all : length rows / 3 ≤ index → all index room at ≡ rows_from 0 rows values room₀ place
   reached_all h =

@@ -1,5 +1,5 @@
 // Options written into a lent room at a place, as the crate's `encode_long_opt_bytes` writes them: parts of 255 bytes, each with its
-// code and its length before it. `rows` writes many in one call.
+// code and its length before it. `rows` writes many in one call. The room and the place are parameters of each, as the calls from C have them.
 #![tactic(auto)]
 
 pub mod rows;

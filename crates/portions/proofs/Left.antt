@@ -1,7 +1,8 @@
 -- What is left of a field from a place on, by what a call answers there (`portion_at`): a loop goes over its parts so.
 -- Assumes nothing.
-use mathlib.Core.Path.{◌≡◌, refl, sym, ap, ◌∙◌}
-use Prim.Native.Nat.{ℕ, ◌+◌, ◌≤◌}
+use mathlib.Core.Path.{◌≡◌, refl, sym, ap, subst, ◌∙◌}
+use Prim.Native.Nat.{ℕ, ◌+◌, ◌≤◌, ◌<◌}
+use native.Mathlib.Decide.{dec_le}
 use native.Mathlib.Omega.{arith}
 use mathlib.Core.List.{List, [], ◌∷◌}
 use lib.ListN.{length, drop, length-drop}
@@ -10,8 +11,8 @@ use Rattle.std.specs.Result.{IsOk}
 use Rattle.std.specs.Prelude.{Option, Some, None, Result, Ok, Err}
 use Rattle.rfc.specs.Portions as rfc
 use Rattle.rfc.specs.Portions.{Portion, portion, next_portion, cut_field, whole, ahead, portions}
-use Rattle.rfc.proofs.Portions.{stands, ended, is-cut, one_part, ahead_is}
-use Rattle.portions.specs.Told.{next_of}
+use Rattle.rfc.proofs.Portions.{none-at, stands, ended, is-cut, one_part, ahead_is}
+use Rattle.portions.specs.Told.{next_of, Gives}
 use Rattle.refusal.specs.declared.Refusal.{Refusal}
 use Rattle.refusal.specs.declared.Refusal.TheVariants.{FieldCut}
 use Rattle.portions.specs.declared.Portion as numbers
@@ -41,6 +42,13 @@ module _ (bytes : List ℕ) (at : ℕ) {r : Result (Option numbers.Portion) Refu
       go rfc.no_more w = cc (ap next_of w)
       go rfc.cut_part w = is-cut at (drop at bytes) w
       go (rfc.next p l) w = cc (ap next_of w)
+
+  pub cut_inside : {f : Refusal} → r ≡ Err f → at < length bytes
+  cut_inside {f} e = go (dec_le (length bytes) at)
+    where
+      go : Dec (length bytes ≤ at) → at < length bytes
+      go (yes h) = cc (ap next_of (none-at bytes at h))
+      go (no h) = omega arith
 
   pub cut_says : {f : Refusal} → r ≡ Err f → f ≡ FieldCut
   cut_says {f} e = go (next_portion at (drop at bytes)) refl
@@ -73,6 +81,21 @@ module _ (bytes : List ℕ) (at : ℕ) {r : Result (Option numbers.Portion) Refu
                 one_part at (drop at bytes) p l w
                 ∙ (λ i. ahead (portion (same i).code p.value (place_is i)) (portions (place_is i) (from i)));
           }
+
+-- what a step over the parts gives, by what a call answers there
+module _ (bytes field : List ℕ) (at to : ℕ) {r : Option (Result numbers.Portion Refusal)} (g : Gives bytes at r field to) where
+  gives : {x : Option (Result numbers.Portion Refusal)} → r ≡ x → Gives bytes at x field to
+  gives e = subst (λ (x : Option (Result numbers.Portion Refusal)). Gives bytes at x field to) e g
+
+  pub gives_none : r ≡ None → Ok None ≡ next_of (next_portion at (drop at bytes))
+  gives_none e = sym (gives e).0
+
+  pub gives_cut : {f : Refusal} → r ≡ Some (Err f) → Err f ≡ next_of (next_portion at (drop at bytes))
+  gives_cut e = sym (gives e).0
+
+  pub gives_part : {q : numbers.Portion} → r ≡ Some (Ok q)
+      → (Ok (Some q) ≡ next_of (next_portion at (drop at bytes))) × (field ≡ bytes) × (to ≡ q.place)
+  gives_part e = let h = gives e in (sym h.0, h.1, h.2)
 
 -- the first of the parts that are left, by its numbers, and the rest of them behind its place
 pub record FirstLeft (bytes : List ℕ) (at : ℕ) (ps : List Portion) (code len place : ℕ) : Type 0 where
@@ -112,3 +135,10 @@ module _ (bytes : List ℕ) (at : ℕ) (ps : List Portion) (left : portions at (
   -- no more parts are left, where no part is answered
   pub none_left : r ≡ Ok None → ps ≡ []
   none_left e = let same : whole ps ≡ whole [] = sym left ∙ ended_left bytes at told e in cc
+
+-- nor is one that a step gives
+pub gives_ok : (bytes field : List ℕ) (at to : ℕ) {ps : List Portion} → portions at (drop at bytes) ≡ whole ps
+    → {r : Option (Result numbers.Portion Refusal)} → Gives bytes at r field to → (x : Result numbers.Portion Refusal) → r ≡ Some x → IsOk x
+gives_ok bytes field at to left g (Ok p) e = refl
+gives_ok bytes field at to left g (Err f) e =
+    let cut = cut_left bytes at (gives_cut bytes field at to g e) refl in cc

@@ -13,6 +13,12 @@ next_of rfc.no_more = Ok None
 next_of rfc.cut_part = Err FieldCut
 next_of (rfc.next p rest) = Ok (Some (record { code = p.code; len = length p.value; place = p.place }))
 
+-- what a step over a field's parts gives, from a place to a place
+abbrev pub Gives : List ℕ → ℕ → Option (Result Portion Refusal) → List ℕ → ℕ → Type 0
+Gives bytes at None field to = (next_of (rfc.next_portion at (drop at bytes)) ≡ Ok None) × (field ≡ bytes)
+Gives bytes at (Some (Ok p)) field to = (next_of (rfc.next_portion at (drop at bytes)) ≡ Ok (Some p)) × (field ≡ bytes) × (to ≡ p.place)
+Gives bytes at (Some (Err e)) field to = (next_of (rfc.next_portion at (drop at bytes)) ≡ Err e) × (field ≡ bytes)
+
 -- Between the functions of the crate: a place at which something stands, and no Pad
 pub record NoPad (bytes : List ℕ) (at : ℕ) : Type 0 where
   pub inside : at < length bytes

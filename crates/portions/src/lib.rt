@@ -1,9 +1,10 @@
 // The parts of options that a field of a message holds, one after the other: a field ends at its End or its last byte.
 #![tactic(auto)]
 
-ghost use Rattle.std.specs.Prelude.{◌≡◌, drop};
+ghost use Rattle.std.specs.Prelude.{◌≡◌, ◌-◌, drop, length};
+ghost use Rattle.std.specs.Iterator.{at_most};
 ghost use Rattle.rfc.specs.Portions.{next_portion};
-ghost use Rattle.portions.specs.Told.{next_of, NoPad, PadsPassed};
+ghost use Rattle.portions.specs.Told.{next_of, Gives, NoPad, PadsPassed};
 
 use refusal::Refusal;
 
@@ -25,6 +26,35 @@ pub fn portion_at(bytes: &[u8], at: usize) -> Result<Option<Portion>, Refusal>
         return Ok(None);
     }
     read(bytes, i)
+}
+
+// The parts of a field from a place on, one after the other. One that is cut is the last.
+#[derive(Clone, Copy)]
+pub struct Portions<'a> {
+    pub bytes: &'a [u8],
+    pub at: usize,
+}
+
+impl Iterator for Portions<'_> {
+    type Item = Result<Portion, Refusal>;
+
+    ghost next_gives = { λ s r t. Gives s.bytes.now s.at r t.bytes.now t.at };
+
+    ghost remaining = { λ s. at_most (length s.bytes.now - s.at) };
+
+    fn next(&mut self) -> Option<Result<Portion, Refusal>> {
+        match portion_at(self.bytes, self.at) {
+            Ok(None) => None,
+            Ok(Some(part)) => {
+                self.at = part.place;
+                Some(Ok(part))
+            }
+            Err(refusal) => {
+                self.at = self.bytes.len();
+                Some(Err(refusal))
+            }
+        }
+    }
 }
 
 // The first place from `at` on that holds no Pad; where there is none, one behind the bytes.

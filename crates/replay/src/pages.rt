@@ -1,4 +1,5 @@
 // Bytes laid one behind another on a page, as answers are recorded, and compared. What does not fit a page answers None.
+#[derive(Drop)]
 pub struct Page {
     bytes: [u8; 8192],
     // The place behind the bytes that are put.

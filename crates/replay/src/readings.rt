@@ -31,7 +31,13 @@ fn put_held(page: &mut Page, code: u8, value: &[u8], held: Value) -> Option<()> 
     page.put(&[held.kind])?;
     match kind {
         Kind::Raw | Kind::Text => page.put(value),
-        Kind::Addresses | Kind::Pairs | Kind::U16s | Kind::Codes => put_list(page, code, value, held.count, kind.element_size()),
+        Kind::Addresses | Kind::Pairs | Kind::U16s | Kind::Codes => put_list(
+            page,
+            code,
+            value,
+            held.count,
+            kind.element_size(),
+        ),
         _ => page.put_number(held.number, kind.element_size()),
     }
 }
@@ -39,7 +45,11 @@ fn put_held(page: &mut Page, code: u8, value: &[u8], held: Value) -> Option<()> 
 fn put_list(page: &mut Page, code: u8, value: &[u8], count: usize, size: usize) -> Option<()> {
     page.put_count(count)?;
     for i in 0..count {
-        put_element(page, sindovaleph_elements::sindovaleph_element(code, value, i), size)?;
+        put_element(
+            page,
+            sindovaleph_elements::sindovaleph_element(code, value, i),
+            size,
+        )?;
     }
     Some(())
 }

@@ -70,7 +70,9 @@ impl Tally {
     }
 
     fn total(&self) -> u64 {
-        self.areas.wrapping_add(self.readings).wrapping_add(self.writes)
+        self.areas
+            .wrapping_add(self.readings)
+            .wrapping_add(self.writes)
     }
 }
 

@@ -35,10 +35,8 @@ fn pattern(place: usize) -> u8 {
 fn wrote(room: &[u8], to: usize, bytes: &[u8]) -> bool {
     let written = PLACE <= to && borrowed::part(room, PLACE, to.saturating_sub(PLACE)) == bytes;
     written
-        && room
-            .iter()
-            .enumerate()
-            .all(|(place, byte)| (PLACE <= place && place < to) || *byte == pattern(place))
+        && room.iter().enumerate().all(|(place, byte)| (PLACE <= place && place < to)
+            || *byte == pattern(place))
 }
 
 fn write(room: &mut [u8], code: u8, sort: u8, content: &[u8]) -> Option<usize> {
@@ -50,7 +48,9 @@ fn write(room: &mut [u8], code: u8, sort: u8, content: &[u8]) -> Option<usize> {
         Kind::Raw => options::write_bytes(room, PLACE, code, content).ok(),
         Kind::Text => typed::write_text(room, PLACE, code, content).ok(),
         Kind::Flag => typed::write_flag(room, PLACE, code).ok(),
-        Kind::Addresses | Kind::Pairs | Kind::U16s | Kind::Codes => write_list(room, code, kind, content),
+        Kind::Addresses | Kind::Pairs | Kind::U16s | Kind::Codes => write_list(
+            room, code, kind, content,
+        ),
         _ => write_number(room, code, kind, content),
     }
 }
@@ -84,9 +84,14 @@ fn write_number(room: &mut [u8], code: u8, kind: Kind, content: &[u8]) -> Option
 // A list: its count in two bytes, then its elements.
 fn write_list(room: &mut [u8], code: u8, kind: Kind, content: &[u8]) -> Option<usize> {
     let count = usize::from(decoder::u16_at(content, 0));
-    let elements = borrowed::part(content, 2, count * kind.element_size());
+    let elements = borrowed::part(content, 2, count.checked_mul(kind.element_size())?);
     let written = match kind {
-        Kind::Addresses => lists::write_addresses(room, PLACE, code, u32s_of(elements).get(..count)?),
+        Kind::Addresses => lists::write_addresses(
+            room,
+            PLACE,
+            code,
+            u32s_of(elements).get(..count)?,
+        ),
         Kind::Pairs => lists::write_pairs(room, PLACE, code, u32s_of(elements).get(..2 * count)?),
         Kind::U16s => lists::write_u16s(room, PLACE, code, u16s_of(elements).get(..count)?),
         _ => typed::write_codes(room, PLACE, code, elements),

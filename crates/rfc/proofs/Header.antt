@@ -2,15 +2,14 @@
 -- Assumes nothing.
 use mathlib.Core.Path.{◌≡◌, refl, sym, ap, ◌∙◌}
 use Prim.Native.Nat.{ℕ, suc, ◌+◌, ◌-◌, ◌≤◌, ◌<◌}
-use native.Mathlib.Numerals.{add-one}
 use native.Mathlib.Omega.{arith}
 use native.Mathlib.Decide.{dec_le}
 use mathlib.Core.Bool.{Bool, true, false, cond}
 use mathlib.Core.List.{List, [], ◌∷◌, ◌++◌, append-nil}
 use lib.Dec.{eqb, ltb}
-use lib.ListN.{length, take, drop, get_or, length-take, drop_of_length-le}
-use lib.Seq.{drop-cons, take-take, take-add, drop-drop}
-use borrow.Author.Tests.{eq-eqb, ne_eqb, lt-ltb, le-ltb, ltb-false}
+use lib.ListN.{length, take, drop, length-take}
+use lib.Seq.{take-take, take-add, drop-drop}
+use borrow.Author.Tests.{lt-ltb, le-ltb, ltb-false}
 use Rattle.facts.specs.BigEndian.{number}
 use Rattle.rfc.specs.Numbers.{given, refused, least_message, most_bytes}
 use Rattle.rfc.specs.Header.{Part, part, bytes_of, hlen, chaddr_field, sname_field, file_field, magic_field, message_checks, field, hlen_of, spills, Address, address, chaddr_cut, chaddr_checks, chaddr, until_zero, text_field, sname, file, magic, magic_right, options, wrong_magic, area_start, area}
@@ -56,13 +55,6 @@ module _ (message : List ℕ) where
     pub field_given : Clear (message_checks message) → field f message ≡ given (number (bytes_of f message))
     unfolding field
     field_given c = clears _ c
-
-    pub given_field : (n : ℕ) → field f message ≡ given n → Clear (message_checks message) × (number (bytes_of f message) ≡ n)
-    unfolding field
-    given_field n e =
-        let p = passes (message_checks message) _ (given n) (given_no n) e in
-        let same : given (number (bytes_of f message)) ≡ given n = p.1 in
-        (p.0, cc)
 
     -- a text field
     pub text_refused : {k : ℕ} → Refuses (message_checks message) k → text_field f message ≡ refused k
@@ -180,17 +172,3 @@ zero_within (b ∷ rest) = go (eqb b 0) (zero_within rest)
 pub text_within : (f : Part) (message : List ℕ) → until_zero (bytes_of f message) ≤ f.len
 text_within f message =
     omega (arith, zero_within (bytes_of f message), length-take f.len (drop f.start message))
-
--- the first zero: the next byte is one, or it is none, or there is no next byte
-module _ (bytes : List ℕ) (i : ℕ) where
-  pub zero_here : i < length bytes → get_or bytes i 0 ≡ 0 → until_zero (drop i bytes) ≡ 0
-  unfolding until_zero
-  zero_here h e = rw (drop-cons bytes i 0 h, eq-eqb (get_or bytes i 0) 0 e)
-
-  pub zero_later : i < length bytes → (get_or bytes i 0 ≡ 0 → ⊥) → until_zero (drop i bytes) ≡ suc (until_zero (drop (i + 1) bytes))
-  unfolding until_zero
-  zero_later h e = rw (add-one i, drop-cons bytes i 0 h, ne_eqb (get_or bytes i 0) 0 e)
-
-  pub zero_none : length bytes ≤ i → until_zero (drop i bytes) ≡ 0
-  unfolding until_zero
-  zero_none h = ap until_zero (drop_of_length-le bytes h)

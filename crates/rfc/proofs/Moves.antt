@@ -8,15 +8,15 @@ use mathlib.Core.List.{List, [], ◌∷◌, ◌++◌, map, flatten}
 use native.Mathlib.Omega.{arith}
 use native.Mathlib.Nat.{not-suc-le-zero, le_refl, mul-lt-mul_of_pos_right}
 use lib.Pow.{pow-add}
-use lib.Dec.{eqb, ltb, lit<, lit≤}
-use lib.ListN.{length, take, drop, length-append, length-take, length-drop, take-append-drop, drop_of_length-le}
-use lib.Seq.{length-take-le, take-add, take-take, drop-drop, drop_at}
+use lib.Dec.{eqb, lit<}
+use lib.ListN.{length, take, drop, length-append, length-take, length-drop, take-append-drop}
+use lib.Seq.{length-take-le, take-add}
 use borrow.Author.Tests.{eqb-true, eq-eqb, ne_eqb, not-false}
-use Rattle.facts.specs.BigEndian.{number, number_at, digits}
+use Rattle.facts.specs.BigEndian.{number, digits}
 use Rattle.facts.specs.Each.{Each}
 use Rattle.facts.specs.Pieces.{pieces}
 use Rattle.facts.specs.Ranges.{within, lookup}
-use Rattle.facts.proofs.BigEndian.{number_digits, number_below, writes_back, high_digits, number_there, some}
+use Rattle.facts.proofs.BigEndian.{number_digits, number_below, writes_back, high_digits, some}
 use Rattle.facts.proofs.Ranges.{one_answer}
 use Rattle.facts.proofs.Pieces.{pieces_more, pieces_none, flatten_pieces}
 use Rattle.rfc.specs.Numbers.{given, first_refusal}
@@ -26,11 +26,11 @@ use Rattle.rfc.specs.Routes.{Route, most_width, significant, route_bytes}
 use Rattle.rfc.specs.Classless.{masked, as_read, Fitting, route_in, behind_width, row_checks, RouteRow, route_rows}
 use Rattle.rfc.specs.Strung.{RowMade, all_checks, all_bytes}
 use Rattle.rfc.specs.Moves.{octet, classes, width_for, barred, pair_route, route_out, pair_out, out_rows, outward, old_form_checks, row_back, back_rows, backward}
-use Rattle.rfc.proofs.Numbers.{here as now-refuses, later as then-refuses, Clear, done, next, clear_both, clear_front, clear_behind, first_is, none_first, Numbered, numbered_both}
+use Rattle.rfc.proofs.Numbers.{here as now-refuses, later as then-refuses, Clear, done, next, clear_both, clear_front, clear_behind, first_is, none_first}
 use Rattle.rfc.proofs.Bytes.{byte_below, bytes_take, bytes_drop}
 use Rattle.rfc.proofs.Routes.{significant_least, length_route}
 use Rattle.rfc.proofs.Strung.{checks_none, checks_more, bytes_none, bytes_more, strung_given, given_strung}
-use Rattle.rfc.proofs.Classless.{route_row_of, rows_none, rows_more, clear_row, whole_bytes, rest_of, rows_front, back_clear, rows_numbered}
+use Rattle.rfc.proofs.Classless.{route_row_of, rows_none, rows_more, clear_row, whole_bytes, rest_of, rows_front, back_clear}
 
 -- a width that the rule gives a destination: whole bytes, and no bit behind them
 pub record Ruled (d w : ℕ) : Type 0 where
@@ -111,15 +111,6 @@ module _ (d : ℕ) where
   pub no_class : 224 ≤ octet d → octet d < 256 → width_for d ≡ most_width
   unfolding classes masked
   no_class h g = ruled_by d most_width (one_answer most_width 224 255 (octet d) h (omega arith) classes most_width refl) (omega arith)
-
-  -- 18
-  pub barred_zero : d ≡ 0 → barred d ≡ true
-  unfolding barred
-  barred_zero e = rw (eq-eqb d 0 e)
-
-  pub barred_else : (d ≡ 0 → ⊥) → barred d ≡ ltb 223 (octet d)
-  unfolding barred
-  barred_else e = rw (ne_eqb d 0 e)
 
 four_back : (l : List ℕ) → length l ≡ 4 → Bytes l → (digits 4 (number l) ≡ l) × (number l < 2 ^ 32)
 four_back l e b =
@@ -360,32 +351,10 @@ pub out_none : out_rows [] ≡ []
 unfolding out_rows size_of sizes
 out_none = ap (map pair_out) (pieces_none 8)
 
--- behind the last there is none
-pub out_ended : (v : List ℕ) (at : ℕ) → length v ≤ at → out_rows (drop at v) ≡ []
-out_ended v at h = ap out_rows (drop_of_length-le v {i = at} h) ∙ out_none
-
-pub out_more : (v : List ℕ) (at : ℕ) → at + 8 ≤ length v
-    → out_rows (drop at v) ≡ route_out (pair_route (number_at 4 v at) (number_at 4 v (at + 4))) ∷ out_rows (drop (at + 8) v)
-unfolding out_rows pair_out size_of sizes
-out_more v at h =
-    let x : List ℕ = drop at v in
-    let first : number (take 4 (take 8 x)) ≡ number_at 4 v at =
-    ap number (take-take 4 8 x (lit≤ tt)) ∙ sym (number_there 4 v at (omega arith)) in
-    let long : length (take 4 x) ≡ 4 = length-take-le 4 x (omega (arith, length-drop at v)) in
-    let behind-four : drop 4 (take 8 x) ≡ take 4 (drop 4 x) =
-    ap (drop 4) (take-add 4 4 x) ∙ drop_at (take 4 x) (take 4 (drop 4 x)) 4 long in
-    let second : number (drop 4 (take 8 x)) ≡ number_at 4 v (at + 4) =
-    ap number (behind-four ∙ ap (take 4) (drop-drop 4 at v)) ∙ sym (number_there 4 v (at + 4) (omega arith)) in
-    ap (map pair_out) (pieces_more 8 (lit< tt) x (omega (arith, length-drop at v)))
-    ∙ (λ i. route_out (pair_route (first i) (second i)) ∷ map pair_out (pieces 8 (drop-drop 8 at v i)))
-
 -- and by rows
 pub back_none : back_rows [] ≡ []
 unfolding back_rows
 back_none = ap (map row_back) rows_none
-
-pub back_ended : (v : List ℕ) (at : ℕ) → length v ≤ at → back_rows (drop at v) ≡ []
-back_ended v at h = ap back_rows (drop_of_length-le v {i = at} h) ∙ back_none
 
 pub back_more : (rows : List RouteRow) (r : RouteRow) (v : List ℕ) → route_rows v ≡ r ∷ rows → back_rows v ≡ row_back r ∷ map row_back rows
 unfolding back_rows
@@ -409,56 +378,6 @@ module _ (r : Route) where
     pub old_none : width_for r.destination ≡ r.width → first_refusal (old_form_checks r) ≡ 0
     unfolding old_form_checks
     old_none e = none_first (next free (next (ap not (eq-eqb (width_for r.destination) r.width e)) done))
-
-module _ (d router : ℕ) where
-  pub out_18 : barred d ≡ true → first_refusal (route_out (pair_route d router)).checks ≡ 18
-  unfolding route_out pair_route
-  out_18 e = first_is (now-refuses e)
-
-  pub out_0 : barred d ≡ false → first_refusal (route_out (pair_route d router)).checks ≡ 0
-  unfolding route_out pair_route
-  out_0 e = none_first (next e done)
-
-  pub out_length : (n : ℕ) → n ≡ min 4 (significant (width_for d)) → length (route_out (pair_route d router)).bytes ≡ 1 + n + 4
-  unfolding route_out pair_route
-  out_length n e = length_route (pair_route d router) n e
-
-  -- whatever its router is
-  pub out_alike : (other : ℕ) → (route_out (pair_route d router)).checks ≡ (route_out (pair_route d other)).checks
-  unfolding route_out pair_route
-  out_alike other = refl
-
-  pub out_route : (w : ℕ) → w ≡ width_for d
-      → route_bytes (record { width = w; destination = d; gateway = router }) ≡ (route_out (pair_route d router)).bytes
-  unfolding route_out pair_route
-  out_route w e = ap (λ (k : ℕ). route_bytes (record { width = k; destination = d; gateway = router })) e
-
--- a value whose rows all move back
-pub backward_given : (v : List ℕ) → Clear (all_checks (back_rows v)) → backward v ≡ given (all_bytes (back_rows v))
-unfolding backward
-backward_given v c = strung_given (back_rows v) c
-
-pub given_backward : (v : List ℕ) → backward v ≡ given (all_bytes (back_rows v)) → Clear (all_checks (back_rows v))
-unfolding backward
-given_backward v e = (given_strung (back_rows v) (all_bytes (back_rows v)) e).0
-
--- the checks of all rows have numbers
-pub out_counts : (v : List ℕ) → Each (λ (m : RowMade). Numbered m.checks) (out_rows v)
-unfolding out_rows pair_out route_out
-out_counts v = go (pieces (size_of 3) v)
-  where
-    go : (ps : List (List ℕ)) → Each (λ (m : RowMade). Numbered m.checks) (map pair_out ps)
-    go [] = tt
-    go (p ∷ ps) = (tt, go ps)
-
-pub back_counts : (v : List ℕ) → Each (λ (m : RowMade). Numbered m.checks) (back_rows v)
-unfolding back_rows row_back old_form_checks
-back_counts v = go (route_rows v) (rows_numbered v)
-  where
-    go : (rs : List RouteRow) → Each (λ (r : RouteRow). Numbered r.checks) rs
-        → Each (λ (m : RowMade). Numbered m.checks) (map row_back rs)
-    go [] e = tt
-    go (r ∷ rs) e = (numbered_both r.checks _ e.0 tt, go rs e.1)
 
 -- where there is a row, something is made of it
 pub out_some : (v : List ℕ) → 0 < length v → 0 < length (all_bytes (out_rows v))

@@ -4,7 +4,6 @@ use mathlib.Core.Path.{◌≡◌, refl}
 use Prim.Native.Nat.{ℕ}
 use mathlib.Core.Bool.{Bool, true, false, ◌||◌}
 use lib.Dec.{eqb}
-use borrow.Author.Tests.{ne_eqb}
 use Rattle.rfc.specs.Aggregate.{names_file, names_sname}
 
 -- each by its own number, and both by 3
@@ -26,11 +25,3 @@ names-file n e = rw e (refl, refl)
 pub names-sname : (n : ℕ) → n ≡ 2 → Names n false true
 unfolding names_file names_sname
 names-sname n e = rw e (refl, refl)
-
-pub names_both : (n : ℕ) → n ≡ 3 → Names n true true
-unfolding names_file names_sname
-names_both n e = rw e (refl, refl)
-
-pub names_none : (n : ℕ) → (n ≡ 1 → ⊥) → (n ≡ 2 → ⊥) → (n ≡ 3 → ⊥) → Names n false false
-unfolding names_file names_sname
-names_none n one two three = rw (ne_eqb n 1 one, ne_eqb n 2 two, ne_eqb n 3 three) (refl, refl)

@@ -8,7 +8,6 @@ use native.Mathlib.Omega.{arith}
 use lib.ListN.{length}
 use borrow.Author.Tests.{lt-ltb, le-ltb, ltb-false, eq-eqb, ne_eqb}
 use Rattle.rfc.specs.Numbers.{Answer, given, refused, needs, and_then, least_message, most_bytes, most_value, pad_code, end_code, too_long, too_short, past_end, no_code, too_much, no_room, Check, check, checked, first_refusal}
-use Rattle.rfc.specs.Header.{message_checks}
 use Rattle.rfc.specs.Typed.{code_checks}
 
 -- the check of this number is the first whose test holds
@@ -109,10 +108,6 @@ is_none (check true (suc k) ∷ cs) p e h = absurd (omega arith)
 is_none (check false (suc k) ∷ cs) p e h = next refl (is_none cs p e h)
 
 -- so the checks of a message, and those of a code
-pub message_none : (message : List ℕ) {n : ℕ} → n ≡ first_refusal (message_checks message) → n ≤ 0 → Clear (message_checks message)
-unfolding message_checks
-message_none message = is_none _ tt
-
 pub code_none : (kind code : ℕ) (room : List ℕ) (place : ℕ) {n : ℕ} → n ≡ first_refusal (code_checks kind code room place) → n ≤ 0
     → Clear (code_checks kind code room place)
 unfolding code_checks

@@ -5,11 +5,10 @@ use Prim.Native.Nat.{ℕ, suc, ◌≤◌, ◌<◌}
 use mathlib.Core.Bool.{Bool, true, false, cond, not}
 use mathlib.Core.List.{List, [], ◌∷◌}
 use mathlib.Mathlib.Data.Bool.Basic.{or-eq-false-eq-eq-false-and-eq-false}
-use native.Mathlib.Nat.{zero-mod}
 use native.Mathlib.Omega.{arith}
 use borrow.Author.Tests.{le-ltb, eqb-true, not-false, eq-eqb, ne_eqb}
 use lib.Dec.{eqb, ltb}
-use lib.ListN.{length, get_or, get_or-eq_default}
+use lib.ListN.{length, get_or}
 use Rattle.facts.specs.Ranges.{lookup, within}
 use Rattle.facts.proofs.Ranges.{none_left, also, lookup_beside}
 use Rattle.rfc.specs.Numbers.{Answer, given, refused, needs, most_bytes, and_then, no_code}
@@ -17,7 +16,6 @@ use Rattle.rfc.specs.Walk.{Found, Stop, stop, option}
 use Rattle.rfc.specs.Kinds.{kind_of, size_of, sizes}
 use Rattle.rfc.specs.Text.{utf8}
 use Rattle.rfc.specs.Values.{Value, value_of, Rule, exactly, at_least, multiple, one_or_more, breaks, Mode, plain, strict, rules, rule_for, wrong_length, home_agents, length_mode, not_text, unclear, read_checks, read, stopped, valued, read_found, read_option}
-use Rattle.rfc.proofs.Codes.{size_some}
 use Rattle.rfc.proofs.Numbers.{here, later, refuses, Clear, done, next, clears, passes, long, not_long, given_no, refused_stands, needs_stands}
 
 -- 10: the length by its rule
@@ -27,22 +25,8 @@ unfolding wrong_length
 length_by mode kind v rule e = ap (λ (r : Rule). breaks r (size_of kind) (length v)) (sym e)
 
 -- a length of 0 is a multiple of any size, and any other is judged alike by both rules of elements
-pub none_multiple : (size : ℕ) → breaks multiple size 0 ≡ false
-none_multiple size = ap not (eq-eqb _ 0 (zero-mod size))
-
 pub some_alike : (size len : ℕ) → (len ≡ 0 → ⊥) → breaks one_or_more size len ≡ breaks multiple size len
 some_alike size len some = rw (ne_eqb len 0 some)
-
--- where a length is neither exact nor a least one, the size of an element is not 0: only the flag's is
-pub some_size : (mode : Mode) (kind : ℕ) → kind < 16 → (rule_for mode kind ≡ exactly → ⊥) → (rule_for mode kind ≡ at_least → ⊥) → 0 < size_of kind
-unfolding rule_for rules lookup within
-some_size mode kind h no-exactly no-least =
-    let other : kind ≡ 15 → ⊥ = λ k. flag mode (λ e. no-exactly (ap (rule_for mode) k ∙ e)) (λ e. no-least (ap (rule_for mode) k ∙ e)) in
-    size_some kind (omega (arith, other))
-  where
-    flag : (m : Mode) → (rule_for m 15 ≡ exactly → ⊥) → (rule_for m 15 ≡ at_least → ⊥) → ⊥
-    flag plain n o = o refl
-    flag strict n o = n refl
 
 -- a length that strict reading accepts, plain reading accepts: the rules, row by row
 strict_length : (kind : ℕ) (v : List ℕ) → wrong_length strict kind v ≡ false → wrong_length plain kind v ≡ false
@@ -60,11 +44,6 @@ strict_length kind v =
     more e = ((or-eq-false-eq-eq-false-and-eq-false (eqb (length v) 0) _).0 e).1
 
 -- the mode by whose rule a code's length is judged: plain for the home agents, for other codes the one asked for
-pub of_home_agents : (mode : Mode) (code : ℕ) → code ≡ home_agents → plain ≡ length_mode mode code
-unfolding length_mode
-of_home_agents plain code e = refl
-of_home_agents strict code e = sym (ap (λ (t : Bool). cond t plain strict) (eq-eqb code home_agents e))
-
 pub of_others : (mode : Mode) (code : ℕ) → (code ≡ home_agents → ⊥) → mode ≡ length_mode mode code
 unfolding length_mode
 of_others plain code n = refl
@@ -119,11 +98,6 @@ pub yes-no : (kind : ℕ) (v : List ℕ) → kind ≡ 5 → unclear strict kind 
 unfolding unclear
 yes-no kind v e = rw (eq-eqb kind 5 e)
 
-pub nothing_clear : (mode : Mode) (kind : ℕ) (v : List ℕ) → kind ≡ 5 → length v ≡ 0 → unclear mode kind v ≡ false
-nothing_clear plain kind v e z = plain_clear kind v
-nothing_clear strict kind v e z =
-    yes-no kind v e ∙ ap (λ (k : ℕ). ltb 1 k) (get_or-eq_default v 0 {n = 0} (omega arith))
-
 -- a reading, check by check
 module _ (mode : Mode) (code : ℕ) (v : List ℕ) where
   pub read_2 : most_bytes < length v → read mode code v ≡ refused 2
@@ -131,10 +105,6 @@ module _ (mode : Mode) (code : ℕ) (v : List ℕ) where
   read_2 over = refuses _ (here (long v over))
 
   module _ (short : length v ≤ most_bytes) where
-    pub read_6 : no_code code ≡ true → read mode code v ≡ refused 6
-    unfolding read read_checks
-    read_6 none = refuses _ (later (not_long v short) (here none))
-
     -- the kind, by whatever name it goes
     module _ (some : no_code code ≡ false) {kind : ℕ} (is : kind ≡ kind_of code) where
       pub read_10 : wrong_length (length_mode mode code) kind v ≡ true → read mode code v ≡ refused 10
@@ -142,16 +112,7 @@ module _ (mode : Mode) (code : ℕ) (v : List ℕ) where
       read_10 wrong = refuses _ (later (not_long v short) (later some (here (rw is at wrong))))
 
       module _ (right : wrong_length (length_mode mode code) kind v ≡ false) where
-        pub read_11 : not_text kind v ≡ true → read mode code v ≡ refused 11
-        unfolding read read_checks
-        read_11 wrong = refuses _ (later (not_long v short) (later some (later (rw is at right) (here (rw is at wrong)))))
-
         module _ (text : not_text kind v ≡ false) where
-          pub read_14 : unclear mode kind v ≡ true → read mode code v ≡ refused 14
-          unfolding read read_checks
-          read_14 wrong =
-              refuses _ (later (not_long v short) (later some (later (rw is at right) (later (rw is at text) (here (rw is at wrong))))))
-
           pub read_given : unclear mode kind v ≡ false → read mode code v ≡ given (value_of kind v)
           unfolding read read_checks
           read_given clear =
@@ -193,10 +154,6 @@ option_stopped mode s at = refl
 
 -- an option is read
 module _ (mode : Mode) (code : ℕ) (v : List ℕ) (n at : ℕ) where
-  pub value_refused : (k : ℕ) → read mode code v ≡ refused k → read_option mode (given (option code v n at)) ≡ refused k
-  unfolding read_option and_then read_found
-  value_refused k e = ap (λ (a : Answer Value). and_then a (λ (x : Value). given (valued code x at))) e
-
   pub value_given : (x : Value) → read mode code v ≡ given x → read_option mode (given (option code v n at)) ≡ given (valued code x at)
   unfolding read_option and_then read_found
   value_given x e = ap (λ (a : Answer Value). and_then a (λ (y : Value). given (valued code y at))) e

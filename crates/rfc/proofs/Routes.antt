@@ -5,9 +5,8 @@ use Prim.Native.Nat.{ℕ, ◌+◌, ◌*◌, ◌/◌, ◌≤◌, ◌<◌, min}
 use mathlib.Core.Bool.{true, false}
 use mathlib.Core.List.{List, [], ◌∷◌, ◌++◌}
 use native.Mathlib.Omega.{arith}
-use native.Mathlib.Numerals.{add-one}
-use lib.ListN.{length, take, drop, length-append, length-take}
-use lib.Seq.{length-take-le, take-append_seam, drop-append_seam}
+use lib.ListN.{length, take, length-append, length-take}
+use lib.Seq.{length-take-le}
 use borrow.Author.Tests.{lt-ltb, le-ltb}
 use Rattle.facts.specs.BigEndian.{digits}
 use Rattle.facts.specs.Over.{over}
@@ -60,18 +59,6 @@ module _ (r : Route) (h : r.width ≤ most_width) where
 
   length_to : many ≡ length to
   length_to = sym (length-take-le many (digits 4 r.destination) (significant_least r.width 4 h))
-
-  pub route_width : take 1 (route_bytes r) ≡ r.width ∷ []
-  unfolding route_bytes
-  route_width = refl
-
-  pub route_destination : take many (drop 1 (route_bytes r)) ≡ to
-  unfolding route_bytes
-  route_destination = ap (λ (n : ℕ). take n (to ++ via)) length_to ∙ take-append_seam to via
-
-  pub route_gateway : drop (many + 1) (route_bytes r) ≡ via
-  unfolding route_bytes
-  route_gateway = rw (add-one many) (ap (λ (n : ℕ). drop n (to ++ via)) length_to ∙ drop-append_seam to via)
 
 pub routes_none : routes_bytes [] ≡ []
 unfolding routes_bytes

@@ -15,17 +15,17 @@ use Rattle.facts.specs.BigEndian.{digits}
 use Rattle.facts.proofs.BigEndian.{Bytes, length_digits}
 use Rattle.facts.proofs.Table.{each}
 use Rattle.facts.specs.Ranges.{lookup, within}
-use Rattle.rfc.specs.Numbers.{refused, most_bytes, most_value, most_part, pad_code, end_code, too_long, past_end, no_code, check}
-use Rattle.rfc.specs.Kinds.{kind_of, sizes, size_of}
+use Rattle.rfc.specs.Numbers.{refused, most_bytes, most_value, most_part, too_long, past_end, no_code, check}
+use Rattle.rfc.specs.Kinds.{sizes, size_of}
 use Rattle.rfc.specs.Values.{Content, numbers, width_of, not_text}
 use Rattle.rfc.specs.Writing.{encode, Write, write_checks, answer_to, room_after, write_slice, write_bytes}
-use Rattle.rfc.specs.Typed.{digits_of, bytes_in, part_size, encode_kind, other_kind, odd_pairs, code_checks, value_checks}
+use Rattle.rfc.specs.Typed.{digits_of, bytes_in, part_size, encode_kind, odd_pairs, code_checks, value_checks}
 use Rattle.rfc.specs.Typed.{write_kind, write_value}
-use Rattle.rfc.proofs.Numbers.{Refuses, here, later, refuses_front, refuses_behind, Clear, done, next, clear_both, clear_last, long, not_long, not_too_long, past, place_within, pad-code, end-code, a_code, much, not_much}
+use Rattle.rfc.proofs.Numbers.{Refuses, here, later, refuses_front, refuses_behind, Clear, done, next, clear_both, clear_last, not_too_long, place_within, much, not_much}
 use Rattle.rfc.proofs.Alike.{Alike, none, both, passes_right, answers_alike, left_alike, clear_slice}
 use Rattle.rfc.proofs.Codes.{size_some}
 use Rattle.rfc.proofs.Values.{value, Scalar, scalar_kind, Listed, addresses, pairs, u16s, codes}
-use Rattle.rfc.proofs.Writing.{encode_once, write_refused, room_behind, room_clear}
+use Rattle.rfc.proofs.Writing.{encode_once, write_refused}
 
 -- the bytes of numbers, each of so many
 module _ (width : ℕ) where
@@ -142,36 +142,6 @@ odd_addresses kind l = rw (length_digits_of 4 l) (ap (λ (b : Bool). eqb kind 3 
     go : Dec (1 ≤ length l % 2) → eqb (4 * length l % 8) 0 ≡ eqb (length l % 2) 0
     go (yes h) = simp (ne_eqb (4 * length l % 8) 0 (λ z. omega (arith, half)), ne_eqb (length l % 2) 0 (λ z. omega arith))
     go (no h) = simp (eq-eqb (4 * length l % 8) 0 (omega (arith, half)), eq-eqb (length l % 2) 0 (omega arith))
-
--- the checks of the room, the place and the code
-module _ (kind code : ℕ) (room : List ℕ) (place : ℕ) where
-  pub code_2 : most_bytes < length room → Refuses (code_checks kind code room place) 2
-  unfolding code_checks
-  code_2 a = here (long room a)
-
-  module _ (a : length room ≤ most_bytes) where
-    pub code_4 : length room < place → Refuses (code_checks kind code room place) 4
-    unfolding code_checks
-    code_4 b = later (not_long room a) (here (past place room b))
-
-    module _ (b : place ≤ length room) where
-      pub code_pad : code ≡ pad_code → Refuses (code_checks kind code room place) 6
-      unfolding code_checks
-      code_pad c = room_behind room place a b (here (pad-code code c))
-
-      module _ (c : code ≡ pad_code → ⊥) where
-        pub code_end : code ≡ end_code → Refuses (code_checks kind code room place) 6
-        unfolding code_checks
-        code_end d = room_behind room place a b (here (end-code code c d))
-
-        module _ (d : code ≡ end_code → ⊥) where
-          pub code_9 : (kind_of code ≡ kind → ⊥) → Refuses (code_checks kind code room place) 9
-          unfolding code_checks other_kind
-          code_9 e = room_behind room place a b (later (a_code code c d) (here (ap not (ne_eqb (kind_of code) kind e))))
-
-          pub code_clear : kind_of code ≡ kind → Clear (code_checks kind code room place)
-          unfolding code_checks other_kind
-          code_clear e = room_clear room place a b (next (a_code code c d) (next (ap not (eq-eqb (kind_of code) kind e)) done))
 
 -- where they are clear, the room is no longer than the most, and the place is in it
 pub code_within : (kind code : ℕ) (room : List ℕ) (place : ℕ) → Clear (code_checks kind code room place)

@@ -10,9 +10,8 @@ use lib.Dec.{lit<, eqb}
 use lib.ListN.{length, take}
 use Rattle.facts.specs.BigEndian.{number, signed}
 use Rattle.facts.specs.Ranges.{lookup, within}
-use Rattle.facts.proofs.Ranges.{outside}
 use Rattle.rfc.specs.Kinds.{size_of, sizes}
-use Rattle.rfc.specs.Values.{Content, raw, natural, integer, truth, numbers, nothing, Value, numbers_of, width_of, contents, value_of, plain, rules, rule_for, wrong_length, elements, node_of, b_node, p_node, m_node, h_node, unknown}
+use Rattle.rfc.specs.Values.{Content, raw, natural, integer, truth, numbers, nothing, Value, numbers_of, width_of, contents, value_of, plain, rules, rule_for, wrong_length, elements, node_of, b_node, p_node, m_node, h_node}
 
 -- a value by its kind and what it holds
 abbrev pub value : ℕ → Content → Value
@@ -92,22 +91,8 @@ module _ (v : List ℕ) where
   unfolding value_of contents lookup within
   flag_value = refl
 
-  pub raw_single : (kind : ℕ) → length (elements (value kind (raw v))) ≡ 0
-  unfolding elements
-  raw_single kind = refl
-
-  pub flag_single : (kind : ℕ) → length (elements (value kind nothing)) ≡ 0
-  unfolding elements
-  flag_single kind = refl
-
   pub scalar_value : {kind size : ℕ} (k : Scalar kind size) → value_of kind v ≡ value kind (holds k v)
   scalar_value k = (is k).reads v
-
-  pub scalar_single : {kind size : ℕ} (k : Scalar kind size) → length (elements (value kind (holds k v))) ≡ 0
-  scalar_single k = (is k).single v
-
-  pub scalar_fits : {kind size : ℕ} → Scalar kind size → wrong_length plain kind v ≡ false → size ≤ length v
-  scalar_fits k = (is k).fits v
 
   pub listed_value : {kind width n : ℕ} → Listed kind width n → value_of kind v ≡ value kind (numbers (numbers_of width v))
   unfolding value_of contents lookup within width_of
@@ -120,7 +105,3 @@ module _ (v : List ℕ) where
 pub named : (node_of 1 ≡ b_node) × (node_of 2 ≡ p_node) × (node_of 4 ≡ m_node) × (node_of 8 ≡ h_node)
 unfolding node_of lookup within
 named = (refl, refl, refl, refl)
-
-pub not_named : (x : ℕ) → (x ≡ 1 → ⊥) → (x ≡ 2 → ⊥) → (x ≡ 4 → ⊥) → (x ≡ 8 → ⊥) → node_of x ≡ unknown x
-unfolding node_of lookup
-not_named x n₁ n₂ n₄ n₈ = rw (outside 1 x n₁, outside 2 x n₂, outside 4 x n₄, outside 8 x n₈)

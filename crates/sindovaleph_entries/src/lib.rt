@@ -14,7 +14,7 @@ use header::Header;
 use portions::Portion;
 
 // What a listing of codes answers: how many codes the message has; as many rows are filled as there are, or as there is room for.
-// `refused` is the number of a refusal, 0 for none: it fills no row.
+// `refused` is the number of a refusal, 0 for none, as C needs it: it fills no row.
 #[repr(C)]
 #[derive(Drop)]
 pub struct Entries {

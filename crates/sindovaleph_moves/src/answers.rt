@@ -1,5 +1,5 @@
 // How what is read of classless routes crosses the boundary. `refused` is the number of a refusal, 0 for none; where one is given, every
-// other number is 0, but for a place.
+// other number is 0, but for a place. C has no option: `found` says whether there is a route.
 ghost use Rattle.std.specs.Prelude.{◌≡◌};
 ghost use Rattle.refusal.specs.Told.{told};
 ghost use Rattle.classless.specs.Rows.{told_by, route_of, there};

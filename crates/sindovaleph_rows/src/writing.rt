@@ -1,8 +1,8 @@
 // Options written in one call from lent rows, all of them or none.
 ghost use Rattle.sindovaleph_rows.specs.Writing.{WritesList};
 
-// What a write of rows answers: how many rows are written and the place behind them. Where a row is refused, `refused` is its number and
-// `rows` its index; then nothing is written, and the place is left. 2 and 4, of the room and the place, are told of row 0.
+// What a write of rows answers, as C needs it: how many rows are written and the place behind them. Where a row is refused, `refused` is its
+// number and `rows` its index; then nothing is written, and the place is left. 2 and 4, of the room and the place, are told of row 0.
 #[repr(C)]
 #[derive(Drop)]
 pub struct WrittenRows {

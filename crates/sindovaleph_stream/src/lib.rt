@@ -21,8 +21,9 @@ pub struct Stream {
     pub filled: u16,
 }
 
-// What a call answers. `refused` is the number of a refusal, 0 for none. `len` is 0, or a message is handed out: the first `len` bytes of the
-// buffer. `used` is how many bytes of the chunk were read, and `stream` goes into the next call: these two are answered with a refusal too.
+// What a call answers, as C needs it. `refused` is the number of a refusal, 0 for none. `len` is 0, or a message is handed out: the first `len`
+// bytes of the buffer. `used` is how many bytes of the chunk were read, and `stream` goes into the next call: these two are answered with a
+// refusal too.
 #[repr(C)]
 #[derive(Drop)]
 pub struct Received {

@@ -1,4 +1,5 @@
-// Typed writing, at a place of a lent room: a writer for each kind, and one for classless routes.
+// Typed writing, at a place of a lent room: a writer for each kind, and one for classless routes. Room, place and code are parameters of
+// each, as C has them.
 ghost use Rattle.std.specs.Prelude.{[], ◌∷◌};
 ghost use Rattle.rfc.specs.Values.{raw, natural, integer, truth, numbers, nothing};
 ghost use Rattle.rfc.specs.Routes.{write_routes};

@@ -41,9 +41,6 @@ in-front (suc n) (b ∷ text) run =
     passed {text = b ∷ text} {at = 0} (begun (omega arith) (lead_00_7f b (ltb-false 0x7f b parts.0))) ∙ in-front n text parts.1
 
 -- no block has been passed, and one more
-pub none_passed : (text : List ℕ) → Passed text text
-none_passed text = record { at = 0; behind = refl; blocks = refl; before = refl }
-
 pub one_more : (text rest : List ℕ) → Passed text rest → any_high (take 256 rest) ≡ false → Passed text (drop 256 rest)
 one_more text rest p e =
     let at : ℕ = p.at in

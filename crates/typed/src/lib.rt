@@ -1,6 +1,6 @@
 // A writer for each kind of value, as the plain arms of the crate's `DhcpOption::encode` have it. Each takes a code of its kind, a
-// lent room and a place. Here are the kinds that hold one thing, and codes of options, which are cut as bytes are; the crate
-// `lists` has the other lists.
+// lent room and a place, each a parameter of its own, as the calls from C lend them. Here are the kinds that hold one thing, and codes of
+// options, which are cut as bytes are; the crate `lists` has the other lists.
 #![tactic(auto)]
 
 pub mod checks;

@@ -14,10 +14,9 @@ use Rattle.rfc.proofs.Elements.{listed_count}
 use Rattle.kinds.specs.declared.Kind.{Kind}
 use Rattle.kinds.specs.Kind.{number_of}
 use Rattle.kinds.proofs.Numbers.{same_kind}
-use Rattle.std.specs.Prelude.{Result, Ok, Err}
+use Rattle.std.specs.Prelude.{Result, Ok}
 use Rattle.std.proofs.lemmas.Option.{unwrap_or-slice_get}
 use Rattle.refusal.specs.declared.Refusal.{Refusal}
-use Rattle.refusal.specs.Told as refusal
 use Rattle.values.specs.Reading.{says, count_of, Named, Tells, ReadAs, Right}
 use Rattle.values.specs.declared.answer.Value.{Value}
 
@@ -28,9 +27,6 @@ pub ruleset yes_no_tests = (same_kind, unwrap_or-slice_get)
 module _ (v : List ℕ) (a : Answer rfc.Value) where
   pub is_value : {reading : Result Value Refusal} {r : Value} → reading ≡ Ok r → ReadAs v a reading → Tells v a r
   is_value e t = subst (λ (x : Result Value Refusal). ReadAs v a x) e t
-
-  pub is_refused : {reading : Result Value Refusal} {e : Refusal} → reading ≡ Err e → ReadAs v a reading → a ≡ refusal.says e
-  is_refused e t = sym (subst (λ (x : Result Value Refusal). ReadAs v a x) e t)
 
 module _ {kind : Kind} {v : List ℕ} (right : Right (number_of kind) v) {k : Kind} (is : kind ≡ k) where
   -- a case that says what the kind's value is

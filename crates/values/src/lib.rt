@@ -1,4 +1,5 @@
-// The typed reading of an option's value, by the kind of its code: plain, as the crate reads it, and strict.
+// The typed reading of an option's value, by the kind of its code: plain, as the crate reads it, and strict. The value and `strict` cross from C
+// as they are; a kind and a value are one thing nowhere but here.
 #![tactic(auto)]
 
 pub mod answer;

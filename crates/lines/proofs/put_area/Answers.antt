@@ -4,7 +4,6 @@ use mathlib.Core.Path.{sym, ◌∙◌}
 use Rattle.rfc.proofs.Header.{area_inside}
 use Rattle.borrowed.proofs.Shown.{part_there}
 use Rattle.lines.specs.Listing.{area_lines}
-use Rattle.lines.proofs.Telling.{area_refused}
 use Rattle.lines.proofs.put_area.Goals as goal
 
 pub returns-in-Ok-Some : goal.returns-in-Ok-Some
@@ -13,13 +12,3 @@ returns-in-Ok-Some c =
     let told = rw c.in-Ok-Some.field-0-is at c.in-Ok-Some.ensures in
     let shows = c.part-area.ensures ∙ part_there _ _ _ (area_inside _ _ (sym told)) in
     rw (← told, ← shows) c.put_options.ensures
-
-pub returns-in-Ok-None : goal.returns-in-Ok-None
-unfolding area_lines
-returns-in-Ok-None c =
-    let told = rw c.in-Ok-None.field-0-is at c.in-Ok-None.ensures in
-    rw (← told) c.word.ensures
-
-pub returns-in-Err : goal.returns-in-Err
-returns-in-Err c =
-    rw (← c.in-Err.ensures, area_refused, ← c.number.ensures) c.put_refused.ensures

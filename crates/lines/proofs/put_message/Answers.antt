@@ -3,20 +3,8 @@
 use Rattle.pen.proofs.Added.{both}
 use Rattle.rfc.specs.Header as header
 use Rattle.lines.specs.Listing.{message_line}
-use Rattle.lines.proofs.Telling.{field_given, field_is}
+use Rattle.lines.proofs.Telling.{field_is}
 use Rattle.lines.proofs.put_message.Goals as goal
-
-pub unwrap-requires : goal.unwrap-requires
-unwrap-requires c = field_given _ header.op c.requires _ c.op.ensures
-
-pub unwrap-requires-2 : goal.unwrap-requires-2
-unwrap-requires-2 c = field_given _ header.htype c.requires _ c.htype.ensures
-
-pub unwrap-requires-3 : goal.unwrap-requires-3
-unwrap-requires-3 c = field_given _ header.hlen c.requires _ c.hlen.ensures
-
-pub unwrap-requires-4 : goal.unwrap-requires-4
-unwrap-requires-4 c = field_given _ header.xid c.requires _ c.xid.ensures
 
 pub returns : goal.returns
 unfolding message_line

@@ -1,19 +1,12 @@
 -- `put_options` meets its contract: the rest of the text is what the calls that are left give from where the loop stands.
 -- Assumes nothing.
-use mathlib.Core.Path.{◌≡◌, refl, ap, ◌∙◌}
-use Prim.Native.Nat.{◌-◌}
-use native.Mathlib.Omega.{arith}
+use mathlib.Core.Path.{ap, ◌∙◌}
 use Rattle.rfc.specs.Walk as walk
 use Rattle.pen.proofs.Added.{nothing}
 use Rattle.lines.specs.Listing.{refused_line}
-use Rattle.lines.proofs.Resting.{begins, goes_on, ends}
+use Rattle.lines.proofs.Resting.{goes_on, ends}
 use Rattle.lines.proofs.Telling.{lines_stopped, lines_refused, lines_more, lines_none}
 use Rattle.lines.proofs.put_options.Goals as goal
-
-pub loop-init : goal.loop-init
-loop-init c =
-    let all : c.args.calls - 0 ≡ c.args.calls = omega arith in
-    (rw all (begins _ _), refl)
 
 pub loop-preserved : goal.loop-preserved
 loop-preserved c =

@@ -1,56 +1,67 @@
 -- `join_field` meets its contract: after each turn some values are joined (`Joined`), and the next one fits.
 -- Assumes nothing.
-use mathlib.Core.Path.{◌∙◌, ap}
+use mathlib.Core.Path.{refl, ap, ◌∙◌}
 use native.Mathlib.Omega.{arith}
-use Rattle.std.specs.Prelude.{Ok}
-use Rattle.portions.proofs.Left.{left_ok}
+use Rattle.std.specs.Prelude.{Some}
+use Rattle.portions.specs.declared.Portions.{Portions}
+use Rattle.portions.proofs.Left.{gives_none, gives_part, gives_ok}
 use Rattle.aggregate.proofs.Joining.{joined_start, join_long, joined_all, part_within, joined_other, part_fits, joined_more}
 use Rattle.aggregate.proofs.gather.join_field.Goals as goal
 
 pub loop-part-init : goal.loop-part-init
-loop-part-init c = joined_start c.requires
+loop-part-init c =
+    let from = c.into_iter-part-iterator.ensures.into_iter_gives in
+    (tt, tt, ap (λ (p : Portions). p.bytes.now) from, rw (ap (λ (p : Portions). p.at) from) (joined_start c.requires))
 
-pub unwrap-requires : goal.unwrap-requires
-unwrap-requires c = left_ok _ c.loop-part.at _ c.loop-part.invariant.rest _ c.portion_at.ensures
+pub unwrap-part-requires : goal.unwrap-part-requires
+unwrap-part-requires c =
+    let v = c.loop-part.invariant in
+    gives_ok _ _ _ _ (rw (← v.2) at v.3.rest) c.next.ensures.steps _ c.in-Some.is
 
 pub overflow_sub-value : goal.overflow_sub-value
 overflow_sub-value c =
-    let within = part_within c.loop-part.invariant _ c.portion_at.ensures c.in-Some.ensures in
-    omega (arith, within)
+    let v = c.loop-part.invariant in
+    let g = gives_part _ _ _ _ c.next.ensures.steps (c.in-Some.is ∙ ap Some c.unwrap-part.ensures) in
+    let told = rw v.2 at g.0 in
+    omega (arith, part_within v.3 _ told refl)
 
 pub slice_bounds-value-end : goal.slice_bounds-value-end
 slice_bounds-value-end c =
-    let within = part_within c.loop-part.invariant _ c.portion_at.ensures c.in-Some.ensures in
-    omega (arith, within)
+    let v = c.loop-part.invariant in
+    let g = gives_part _ _ _ _ c.next.ensures.steps (c.in-Some.is ∙ ap Some c.unwrap-part.ensures) in
+    let told = rw v.2 at g.0 in
+    omega (arith, part_within v.3 _ told refl)
 
 pub overflow_add-end : goal.overflow_add-end
 overflow_add-end c =
-    let fits = part_fits c.loop-part.invariant _ c.portion_at.ensures c.in-Some.ensures c.if-part-code.true in
-    omega (arith, fits, join_long c.loop-part.invariant)
+    let v = c.loop-part.invariant in
+    let g = gives_part _ _ _ _ c.next.ensures.steps (c.in-Some.is ∙ ap Some c.unwrap-part.ensures) in
+    let told = rw v.2 at g.0 in
+    omega (arith, part_fits v.3 _ told refl c.if-part-code.true, join_long v.3)
 
 pub slice_bounds-write_slice-end : goal.slice_bounds-write_slice-end
 slice_bounds-write_slice-end c =
-    let fits = part_fits c.loop-part.invariant _ c.portion_at.ensures c.in-Some.ensures c.if-part-code.true in
-    omega (arith, fits, join_long c.loop-part.invariant)
-
-pub loop-part-smaller-then-part-code : goal.loop-part-smaller-then-part-code
-loop-part-smaller-then-part-code c =
-    let within = part_within c.loop-part.invariant _ c.portion_at.ensures c.in-Some.ensures in
-    omega (arith, within)
+    let v = c.loop-part.invariant in
+    let g = gives_part _ _ _ _ c.next.ensures.steps (c.in-Some.is ∙ ap Some c.unwrap-part.ensures) in
+    let told = rw v.2 at g.0 in
+    omega (arith, part_fits v.3 _ told refl c.if-part-code.true, join_long v.3)
 
 pub loop-part-preserved-then-part-code : goal.loop-part-preserved-then-part-code
 loop-part-preserved-then-part-code c =
-    joined_more c.loop-part.invariant _ c.portion_at.ensures c.in-Some.ensures c.if-part-code.true
-    c.write_slice.ensures
-
-pub loop-part-smaller : goal.loop-part-smaller
-loop-part-smaller c =
-    let within = part_within c.loop-part.invariant _ c.portion_at.ensures c.in-Some.ensures in
-    omega (arith, within)
+    let v = c.loop-part.invariant in
+    let g = gives_part _ _ _ _ c.next.ensures.steps (c.in-Some.is ∙ ap Some c.unwrap-part.ensures) in
+    let told = rw v.2 at g.0 in
+    (tt, tt, g.1 ∙ v.2, rw g.2 (joined_more v.3 _ told refl c.if-part-code.true c.write_slice.ensures))
 
 pub loop-part-preserved : goal.loop-part-preserved
 loop-part-preserved c =
-    joined_other c.loop-part.invariant _ c.portion_at.ensures c.in-Some.ensures c.if-part-code.false
+    let v = c.loop-part.invariant in
+    let g = gives_part _ _ _ _ c.next.ensures.steps (c.in-Some.is ∙ ap Some c.unwrap-part.ensures) in
+    let told = rw v.2 at g.0 in
+    (tt, tt, g.1 ∙ v.2, rw g.2 (joined_other v.3 _ told refl c.if-part-code.false))
 
 pub returns : goal.returns
-returns c = joined_all c.loop-part.invariant _ c.portion_at.ensures (c.unwrap.ensures ∙ ap Ok c.in_default.is)
+returns c =
+    let v = c.loop-part.invariant in
+    let g = gives_none _ _ _ _ c.next.ensures.steps c.in-None.is in
+    joined_all v.3 _ (rw v.2 at g) refl

@@ -4,29 +4,31 @@ use mathlib.Core.Path.{◌≡◌, refl, sym, ap, ◌∙◌}
 use native.Mathlib.Omega.{arith}
 use mathlib.Core.Bool.{cond}
 use lib.Dec.{eqb}
-use Rattle.std.specs.Prelude.{Ok}
-use Rattle.portions.proofs.Left.{first_left, none_left, left_ok}
+use Rattle.std.specs.Prelude.{Some}
+use Rattle.portions.specs.declared.Portions.{Portions}
+use Rattle.portions.proofs.Left.{first_left, none_left, gives_none, gives_part, gives_ok}
 use Rattle.aggregate.proofs.Marking.{going_all, going_out, kept_here, kept_before, going_new, going_old}
 use Rattle.aggregate.proofs.seen.see.Goals as goal
 use Rattle.aggregate.proofs.seen.see.Goals.{then-seen-index, else-seen-index}
 
 pub loop-part-init : goal.loop-part-init
-loop-part-init c = going_all _ _ c.args.index _ c.requires
+loop-part-init c =
+    let from = c.into_iter-part-iterator.ensures.into_iter_gives in
+    (tt, tt, ap (λ (p : Portions). p.bytes.now) from, rw (ap (λ (p : Portions). p.at) from) (going_all _ _ c.args.index _ c.requires))
 
-pub unwrap-requires : goal.unwrap-requires
-unwrap-requires c = left_ok _ c.loop-part.at _ c.loop-part.invariant.left _ c.portion_at.ensures
+pub unwrap-part-requires : goal.unwrap-part-requires
+unwrap-part-requires c =
+    let v = c.loop-part.invariant in
+    gives_ok _ _ _ _ (rw (← v.2) at v.3.left) c.next.ensures.steps _ c.in-Some.is
 
-pub loop-part-smaller-after-seen-index : goal.loop-part-smaller-after-seen-index
-loop-part-smaller-after-seen-index c =
+pub loop-part-preserved-then-marks-part-eq0 : goal.loop-part-preserved-then-marks-part-eq0
+loop-part-preserved-then-marks-part-eq0 c =
     let l = c.loop-part in
-    let found = first_left _ l.at _ l.invariant.left _ c.portion_at.ensures c.in-Some.ensures in
-    omega (arith, found.behind, found.within)
-
-pub loop-part-preserved-after-seen-index : goal.loop-part-preserved-after-seen-index
-loop-part-preserved-after-seen-index c =
-    let l = c.loop-part in
-    let p = c.in-Some.part in
-    let found = first_left _ l.at _ l.invariant.left _ c.portion_at.ensures c.in-Some.ensures in
+    let p = c.unwrap-part.result in
+    let v = l.invariant in
+    let g = gives_part _ _ _ _ c.next.ensures.steps (c.in-Some.is ∙ ap Some c.unwrap-part.ensures) in
+    let told = rw v.2 at g.0 in
+    let found = first_left c.args.bytes.now _ _ v.3.left _ told refl in
     let kept : c.if-seen-index.seen ≡ record { codes = l.seen.codes; code = cond (eqb l.seen.codes c.args.index) p.code l.seen.code } =
     elim c.if-seen-index.branch [
       | then-seen-index w ↦ w.seen-is
@@ -34,22 +36,18 @@ loop-part-preserved-after-seen-index c =
       | else-seen-index w ↦ w.seen-is
           ∙ (λ i. record { codes = l.seen.codes; code = sym (kept_before l.seen.codes c.args.index p.code l.seen.code w.if-seen-index.false) i })
     ] in
-    rw kept (going_new l.invariant found (omega arith) c.if-marks-part-eq0.true _ refl)
-
-pub loop-part-smaller : goal.loop-part-smaller
-loop-part-smaller c =
-    let l = c.loop-part in
-    let found = first_left _ l.at _ l.invariant.left _ c.portion_at.ensures c.in-Some.ensures in
-    omega (arith, found.behind, found.within)
+    (tt, tt, g.1 ∙ v.2, rw (g.2, kept) (going_new v.3 found (omega arith) c.if-marks-part-eq0.true _ refl))
 
 pub loop-part-preserved : goal.loop-part-preserved
 loop-part-preserved c =
-    let l = c.loop-part in
-    let found = first_left _ l.at _ l.invariant.left _ c.portion_at.ensures c.in-Some.ensures in
-    going_old l.invariant found c.if-marks-part-eq0.false
+    let v = c.loop-part.invariant in
+    let g = gives_part _ _ _ _ c.next.ensures.steps (c.in-Some.is ∙ ap Some c.unwrap-part.ensures) in
+    let told = rw v.2 at g.0 in
+    let found = first_left c.args.bytes.now _ _ v.3.left _ told refl in
+    (tt, tt, g.1 ∙ v.2, rw g.2 (going_old v.3 found c.if-marks-part-eq0.false))
 
 pub returns : goal.returns
 returns c =
-    let l = c.loop-part in
-    going_out l.invariant
-    (none_left _ l.at _ l.invariant.left _ c.portion_at.ensures (c.unwrap.ensures ∙ ap Ok c.in_default.is))
+    let v = c.loop-part.invariant in
+    let g = gives_none _ _ _ _ c.next.ensures.steps c.in-None.is in
+    going_out v.3 (none_left c.args.bytes.now _ _ v.3.left _ (rw v.2 at g) refl)
