@@ -11,7 +11,7 @@ ghost use Rattle.sindovaleph_entries.specs.Filling.{sheet_of, first_row, puts, f
 
 use aggregate::fields;
 use header::Header;
-use portions::Portion;
+use portions::{Portion, Portions};
 
 // What a listing of codes answers: how many codes the message has; as many rows are filled as there are, or as there is room for.
 // `refused` is the number of a refusal, 0 for none, as C needs it: it fills no row.
@@ -69,10 +69,8 @@ impl Seen {
         ensures { sheet_of self.new rows.new
             ≡ fills (sheet_of self.old rows.old) (parts_in (portions start (drop start bytes.now))) }
     {
-        let mut at = start;
-        while let Some(part) = portions::portion_at(bytes, at).unwrap() {
-            self.put(part, rows);
-            at = part.place;
+        for part in (Portions { bytes, at: start }) {
+            self.put(part.unwrap(), rows);
         }
     }
 
