@@ -8,7 +8,7 @@ use mathlib.Core.List.{List, [], ◌∷◌, ◌++◌}
 use lib.ListN.{length, take, drop, get_or, set, replicate, length-append, length-drop}
 use borrow.Author.Tests.{eq-eqb, ne_eqb, le-leb, lt-leb, lt-ltb, le-ltb}
 use Rattle.facts.specs.Over.{over}
-use Rattle.facts.proofs.Over.{over_part, set_over}
+use Rattle.facts.proofs.Over.{set_over}
 use Rattle.rfc.specs.Numbers.{most_bytes}
 use Rattle.rfc.specs.Lists.{Bytes}
 use Rattle.rfc.specs.Portions.{Portion, portion, whole, portions, parts_in, joined_value}
@@ -23,7 +23,7 @@ use Rattle.aggregate.specs.declared.fields.Spans.{Spans}
 use Rattle.aggregate.proofs.Spanning.{Reads, opens}
 use Rattle.aggregate.proofs.Fronts.{options_at, file_at, sname_at, file_front, sname_front}
 use Rattle.sindovaleph_entries.specs.Rows.{entry_rows}
-use Rattle.sindovaleph_entries.specs.Filling.{Sheet, sheet, begins, extended, puts, fills, Holds, Extends, Puts, Fills, FillsAll}
+use Rattle.sindovaleph_entries.specs.Filling.{Sheet, sheet, first_row, begins, extended, puts, fills, Holds, Extends, Puts, Fills, FillsAll}
 use Rattle.sindovaleph_entries.proofs.Putting.{holds_code, holds_parts, holds_len, holds_long, holds_more, holds_all, holds_none}
 
 -- a part put into its row, case by case
@@ -32,16 +32,12 @@ module _ (s : Sheet) (code len place : ℕ) where
   mark = get_or s.marks code 0
 
   module _ (new : mark ≡ 0) (there : code < length s.marks) where
-    -- four numbers in just their part of the rows are a row
-    pub puts_first : s.codes < length s.rows / 4 → {part : List ℕ} → part ≡ code ∷ 1 ∷ len ∷ place ∷ []
-        → sheet (set s.marks code (s.codes + 1)) (take (4 * s.codes) s.rows ++ (part ++ drop (4 * s.codes + 4 - 4 * s.codes) (drop (4 * s.codes) s.rows)))
-        (s.codes + 1)
-        ≡ puts s code len place
+    pub puts_first : s.codes < length s.rows / 4 → {rows' : List ℕ} → rows' ≡ over s.rows (4 * s.codes) (first_row code len place)
+        → sheet (set s.marks code (s.codes + 1)) rows' (s.codes + 1) ≡ puts s code len place
     unfolding puts begins
-    puts_first room {part} e =
-        let put = over_part s.rows (4 * s.codes) (4 * s.codes + 4 - 4 * s.codes) part (omega (arith, ap length e)) ∙ ap (over s.rows (4 * s.codes)) e in
+    puts_first room e =
         rw (eq-eqb mark 0 new, lt-ltb s.codes (length s.rows / 4) room)
-        (λ i. sheet (set_over s.marks code (s.codes + 1) there i) (put i) (s.codes + 1))
+        (λ i. sheet (set_over s.marks code (s.codes + 1) there i) (e i) (s.codes + 1))
 
     pub puts_counted : length s.rows / 4 ≤ s.codes → sheet (set s.marks code (s.codes + 1)) s.rows (s.codes + 1) ≡ puts s code len place
     unfolding puts begins

@@ -23,11 +23,15 @@ sheet marks rows codes = record { marks = marks; rows = rows; codes = codes }
 abbrev pub sheet_of : Seen → List ℕ → Sheet
 sheet_of seen rows = sheet seen.marks rows seen.codes
 
+-- the row of a code's first part
+abbrev pub first_row : ℕ → ℕ → ℕ → List ℕ
+first_row code len place = code ∷ 1 ∷ len ∷ place ∷ []
+
 -- the first part of a code: its mark, and its row where there is room
 unfoldable pub begins : Sheet → ℕ → ℕ → ℕ → Sheet
 begins s code len place =
     sheet (over s.marks code ((s.codes + 1) ∷ []))
-    (cond (ltb s.codes (length s.rows / 4)) (over s.rows (4 * s.codes) (code ∷ 1 ∷ len ∷ place ∷ [])) s.rows)
+    (cond (ltb s.codes (length s.rows / 4)) (over s.rows (4 * s.codes) (first_row code len place)) s.rows)
     (s.codes + 1)
 
 -- a further part of the code whose row begins at a place

@@ -2,15 +2,16 @@
 // over once: a mark for each code says which row is its own.
 #![tactic(auto)]
 
-ghost use Rattle.std.specs.Prelude.{◌≡◌, drop, get_or};
+ghost use Rattle.std.specs.Prelude.{◌≡◌, ◌≤◌, ◌+◌, length, drop, get_or};
+ghost use Rattle.facts.specs.Over.{over};
 ghost use Rattle.rfc.specs.Portions.{portions, parts_in};
 ghost use Rattle.aggregate.specs.Spanned.{Open};
 ghost use Rattle.sindovaleph_entries.specs.Rows.{ListsEntries};
-ghost use Rattle.sindovaleph_entries.specs.Filling.{sheet_of, puts, fills, Puts, Fills, FillsAll, extended, Extends};
+ghost use Rattle.sindovaleph_entries.specs.Filling.{sheet_of, first_row, puts, fills, Puts, Fills, FillsAll, extended, Extends};
 
 use aggregate::fields;
 use header::Header;
-use portions::Portion;
+use portions::{Portion, Portions};
 
 // What a listing of codes answers: how many codes the message has; as many rows are filled as there are, or as there is room for.
 // `refused` is the number of a refusal, 0 for none, as C needs it: it fills no row.
@@ -68,10 +69,8 @@ impl Seen {
         ensures { sheet_of self.new rows.new
             ≡ fills (sheet_of self.old rows.old) (parts_in (portions start (drop start bytes.now))) }
     {
-        let mut at = start;
-        while let Some(part) = portions::portion_at(bytes, at).unwrap() {
-            self.put(part, rows);
-            at = part.place;
+        for part in (Portions { bytes, at: start }) {
+            self.put(part.unwrap(), rows);
         }
     }
 
@@ -90,12 +89,22 @@ impl Seen {
             return;
         }
         if self.codes < rows.len() / 4 {
-            let row = 4 * self.codes;
-            rows[row..row + 4].copy_from_slice(&[part.code as usize, 1, part.len, part.place]);
+            put_row(rows, 4 * self.codes, part);
         }
         self.codes += 1;
         self.marks[part.code as usize] = self.codes as u8;
     }
+}
+
+// Puts the row of a code's first part at `row`: stores one by one, since a slice copied from an array goes through memory.
+fn put_row(rows: &mut [usize], row: usize, part: Portion)
+    requires { row + 4 ≤ length rows.old }
+    ensures { rows.new ≡ over rows.old row (first_row part.code part.len part.place) }
+{
+    rows[row] = part.code as usize;
+    rows[row + 1] = 1;
+    rows[row + 2] = part.len;
+    rows[row + 3] = part.place;
 }
 
 // A further part in the row at `row`. One with no byte is passed by a branch of its own: there may be tens of thousands of them.

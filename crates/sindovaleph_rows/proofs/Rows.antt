@@ -8,7 +8,8 @@ use mathlib.Core.List.{List, [], ◌∷◌, ◌++◌}
 use lib.ListN.{length, take, drop, length-drop}
 use lib.Seq.{length-take-le}
 use Rattle.facts.proofs.Cells.{stores, stores_over}
-use Rattle.facts.proofs.Over.{over_all}
+use Rattle.facts.specs.Over.{over}
+use Rattle.facts.proofs.Over.{over_all, over_over, length_over}
 use Rattle.rfc.specs.Numbers.{Answer, given, needs, and_then}
 use Rattle.rfc.specs.Walk.{Found, option, room_for}
 use Rattle.rfc.specs.Values.{Mode, read}
@@ -26,7 +27,7 @@ use Rattle.crossing.specs.Carried.{value_of, reading_here}
 use Rattle.crossing.specs.declared.answers.Value as crossing
 use Rattle.crossing.proofs.Carries.{reading_crosses}
 use Rattle.sindovaleph_rows.specs.Listing.{Columns, found, typed, width, row_of, value_row, read_unjoined}
-use Rattle.sindovaleph_rows.specs.Listing.{bytes_before, bytes_of, Inside, row_found}
+use Rattle.sindovaleph_rows.specs.Listing.{bytes_before, bytes_of, front_of, Inside, row_found}
 
 -- a row has four numbers or more, and as many as it is wide
 pub four : (c : Columns) → 4 ≤ width c
@@ -92,21 +93,22 @@ module _ {area : List ℕ} {len place : ℕ} (i : Inside area len place) where
       subst (λ (v : List ℕ). ReadAs v (read_unjoined mode code (bytes_before area len place) n place) r) part_before
       (subst (λ (a : Answer rfc.Value). ReadAs (take (place - (place - len)) (drop (place - len) area)) a r) (sym (before_reads mode code n h)) t)
 
--- numbers stored one behind the other are all of a row that has as many
-pub row_stored : (row numbers : List ℕ) → length numbers ≡ length row → stores row 0 numbers ≡ numbers
-row_stored row numbers e = stores_over row 0 numbers (omega arith) ∙ over_all row numbers e
-
 -- the numbers of an option whose bytes are there are its row: four, and four more for what it reads as
 module _ {area : List ℕ} {f : here.Found} (i : Inside area f.len f.place) where
-  pub row_4 : f.code ∷ f.parts ∷ f.len ∷ f.place ∷ [] ≡ row_found found area f
-  row_4 = ap (λ (k : ℕ). f.code ∷ f.parts ∷ k ∷ f.place ∷ []) (sym (length_before i))
+  pub row_4 : (row : List ℕ) {row' : List ℕ} → length row ≡ 4 → row' ≡ over row 0 (front_of f) → row' ≡ row_found found area f
+  row_4 row l e = e ∙ over_all row (front_of f) (omega (arith, l)) ∙ ap (λ (k : ℕ). front_of (record f { len = k })) (sym (length_before i))
 
-  pub row_8 : (mode : Mode) (r : Result Value Refusal) {v : crossing.Value}
-      → ReadAs (bytes_of area f) (read_unjoined mode f.code (bytes_of area f) f.parts f.place) r → v ≡ reading_here r
-      → f.code ∷ f.parts ∷ f.len ∷ f.place ∷ v.refused ∷ v.kind ∷ v.number ∷ v.count ∷ [] ≡ row_found (typed mode) area f
-  row_8 mode r t e =
-      let is = e ∙ reading_crosses _ _ r t in
-      (λ j. (f.code ∷ f.parts ∷ sym (length_before i) j ∷ f.place ∷ []) ++ value_row (is j))
+  module _ (mode : Mode) (r : Result Value Refusal) {v : crossing.Value}
+      (t : ReadAs (bytes_of area f) (read_unjoined mode f.code (bytes_of area f) f.parts f.place) r) (e : v ≡ reading_here r) where
+    pub row_8 : (row : List ℕ) {row' : List ℕ} → length row ≡ 8 → row' ≡ over row 0 (front_of f) → stores row' 4 (value_row v) ≡ row_found (typed mode) area f
+    row_8 row {row'} l w =
+        let k : length row' ≡ 8 = omega (arith, ap length w, length_over row 0 (front_of f) (omega (arith, l))) in
+        let is = e ∙ reading_crosses _ _ r t in
+        stores_over row' 4 (value_row v) (omega (arith, k))
+        ∙ ap (λ (d : List ℕ). over d 4 (value_row v)) w
+        ∙ over_over row 0 (front_of f) (value_row v) (omega (arith, l))
+        ∙ over_all row (front_of f ++ value_row v) (omega (arith, l))
+        ∙ (λ j. front_of (record f { len = sym (length_before i) j }) ++ value_row (is j))
 
 -- the row of an option that stands in the area is that of the bytes before its place
 module _ (area : List ℕ) (code : ℕ) (v : List ℕ) (n at : ℕ) (s : Stands area code v n at) where

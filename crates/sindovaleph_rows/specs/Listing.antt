@@ -106,6 +106,10 @@ pub record Inside (area : List ℕ) (len place : ℕ) : Type 0 where
 abbrev pub row_found : Columns → List ℕ → here.Found → List ℕ
 row_found c area f = row_of c f.code (bytes_of area f) f.parts f.place
 
+-- the four numbers of a row, as a call found them
+abbrev pub front_of : here.Found → List ℕ
+front_of f = f.code ∷ f.parts ∷ f.len ∷ f.place ∷ []
+
 -- a row of so many numbers, for an option whose bytes are there
 pub record Fits (n : ℕ) (row : List ℕ) (area : List ℕ) (f : here.Found) : Type 0 where
   pub wide : length row ≡ n

@@ -1,8 +1,9 @@
 // The options of an area, listed in one call into lent rows: as they are found, or with what each reads as.
-ghost use Rattle.std.specs.Prelude.{ℕ, ◌≡◌, refl};
+ghost use Rattle.std.specs.Prelude.{ℕ, ◌≡◌, ◌≤◌, length, refl};
+ghost use Rattle.facts.specs.Over.{over};
 ghost use Rattle.values.specs.Reading.{mode_of, ReadAs};
 ghost use Rattle.sindovaleph_rows.specs.Listing.{Lists, found, typed, read_unjoined};
-ghost use Rattle.sindovaleph_rows.specs.Listing.{Columns, width, row_found, bytes_of, Inside, Fits, listed_here};
+ghost use Rattle.sindovaleph_rows.specs.Listing.{Columns, width, row_found, bytes_of, front_of, Inside, Fits, listed_here};
 
 use borrowed::answer::{Found, Step, Stop};
 use crossing::answers::Value;
@@ -65,10 +66,7 @@ impl Row for AsFound {
     ghost wide = { λ row. refl };
 
     fn put(self, row: &mut [usize], area: &[u8], found: Found) {
-        row[0] = found.code as usize;
-        row[1] = found.parts;
-        row[2] = found.len;
-        row[3] = found.place;
+        put_found(row, found);
     }
 }
 
@@ -82,16 +80,25 @@ impl Row for AsRead {
     ghost wide = { λ row. refl };
 
     fn put(self, row: &mut [usize], area: &[u8], found: Found) {
+        put_found(row, found);
         let value = Value::from(read_unjoined(area, found, self.strict));
-        row[0] = found.code as usize;
-        row[1] = found.parts;
-        row[2] = found.len;
-        row[3] = found.place;
         row[4] = value.refused as usize;
         row[5] = value.kind as usize;
         row[6] = value.number as usize;
         row[7] = value.count;
     }
+}
+
+// Puts the first four numbers of a row: stores one by one, since a slice copied from an array goes through memory, and before anything is
+// read, which leaves the compiler more registers.
+fn put_found(row: &mut [usize], found: Found)
+    requires { 4 ≤ length row.old }
+    ensures { row.new ≡ over row.old 0 (front_of found) }
+{
+    row[0] = found.code as usize;
+    row[1] = found.parts;
+    row[2] = found.len;
+    row[3] = found.place;
 }
 
 // Lists the options from `place` on, four numbers a row: the code, the parts, the length of the value and the place behind the

@@ -5,7 +5,7 @@ use Prim.Native.Nat.{ℕ, ◌+◌}
 use native.Mathlib.Omega.{arith}
 use mathlib.Core.List.{List}
 use lib.ListN.{get_or, set}
-use Rattle.sindovaleph_entries.specs.Filling.{Sheet, sheet, sheet_of}
+use Rattle.sindovaleph_entries.specs.Filling.{sheet, sheet_of}
 use Rattle.sindovaleph_entries.proofs.Filling.{puts_first, puts_counted, puts_further, puts_passed, has_row}
 use Rattle.sindovaleph_entries.proofs.Seen.put.Goals as goal
 use Rattle.sindovaleph_entries.proofs.Seen.put.Goals.{then-self-rows, else-self-rows}
@@ -28,11 +28,10 @@ returns c =
     let part = c.args.part in
     let new : get_or seen.marks part.code 0 ≡ 0 = omega arith in
     let there = c.requires.holds.each in
-    let counted : List ℕ → Sheet = λ r. sheet (set seen.marks part.code (seen.codes + 1)) r (seen.codes + 1) in
     elim c.if-self-rows.branch [
       | then-self-rows w ↦
-          ap counted w.rows-is
-          ∙ puts_first (sheet_of seen c.args.rows.now) part.code part.len part.place new (omega arith) w.if-self-rows.true w.copy_from_slice.ensures.after
+          puts_first (sheet_of seen c.args.rows.now) part.code part.len part.place new (omega arith) w.if-self-rows.true (w.rows-is ∙ w.put_row.ensures)
       | else-self-rows w ↦
-          ap counted w.rows-is ∙ puts_counted (sheet_of seen c.args.rows.now) part.code part.len part.place new (omega arith) w.if-self-rows.false
+          ap (λ (r : List ℕ). sheet (set seen.marks part.code (seen.codes + 1)) r (seen.codes + 1)) w.rows-is
+          ∙ puts_counted (sheet_of seen c.args.rows.now) part.code part.len part.place new (omega arith) w.if-self-rows.false
     ]
