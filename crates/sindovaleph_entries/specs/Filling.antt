@@ -8,7 +8,6 @@ use Rattle.rfc.specs.Portions.{Portion, whole, portions, joined_value}
 use Rattle.rfc.specs.Aggregate.{fields_of, aggregate, codes_of, options_from}
 use Rattle.rfc.proofs.Listed.{Coded}
 use Rattle.sindovaleph_entries.specs.Rows.{entry_rows}
-use Rattle.sindovaleph_entries.specs.declared.Seen.{Seen}
 
 -- a mark for each code, 0 or 1 more than its row's index; the rows; how many codes there are
 pub record Sheet : Type 0 where
@@ -18,10 +17,6 @@ pub record Sheet : Type 0 where
 
 abbrev pub sheet : List ℕ → List ℕ → ℕ → Sheet
 sheet marks rows codes = record { marks = marks; rows = rows; codes = codes }
-
--- of the codes that were seen and the lent rows
-abbrev pub sheet_of : Seen → List ℕ → Sheet
-sheet_of seen rows = sheet seen.marks rows seen.codes
 
 -- the row of a code's first part
 abbrev pub first_row : ℕ → ℕ → ℕ → List ℕ

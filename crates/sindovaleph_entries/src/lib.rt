@@ -7,7 +7,7 @@ ghost use Rattle.facts.specs.Over.{over};
 ghost use Rattle.rfc.specs.Portions.{portions, parts_in};
 ghost use Rattle.aggregate.specs.Spanned.{Open};
 ghost use Rattle.sindovaleph_entries.specs.Rows.{ListsEntries};
-ghost use Rattle.sindovaleph_entries.specs.Filling.{sheet_of, first_row, puts, fills, Puts, Fills, FillsAll, extended, Extends};
+ghost use Rattle.sindovaleph_entries.specs.Filling.{sheet, first_row, puts, fills, Puts, Fills, FillsAll, extended, Extends};
 
 use aggregate::fields;
 use header::Header;
@@ -45,55 +45,46 @@ fn fill_all(message: &[u8], named: usize, rows: &mut [usize]) -> usize
     ensures { FillsAll message.now rows.old rows.new result }
 {
     let at = fields::spans_of(message, named);
-    let mut seen = Seen {
-        marks: [0; 256],
-        codes: 0,
-    };
-    seen.fill(message, at.options, rows);
-    seen.fill(&message[..at.file], Header::FILE, rows);
-    seen.fill(&message[..at.sname], Header::SNAME, rows);
-    seen.codes
+    let mut marks = [0u8; 256];
+    let options = fill(message, at.options, &mut marks, rows, 0);
+    let file = fill(&message[..at.file], Header::FILE, &mut marks, rows, options);
+    fill(&message[..at.sname], Header::SNAME, &mut marks, rows, file)
 }
 
-// The codes that were seen: a mark for each, 0 or 1 more than the index of its row, and how many there are.
-#[derive(Drop)]
-struct Seen {
-    marks: [u8; 256],
-    codes: usize,
+// Puts the parts of the field that begins at `start` into their rows, behind `before` codes; answers how many codes there are then. Their
+// number is no field beside the marks: it goes in and out by value, and stays in a register.
+fn fill(bytes: &[u8], start: usize, marks: &mut [u8], rows: &mut [usize], before: usize) -> usize
+    requires { Fills bytes.now start (sheet marks.old rows.old before) }
+    ensures { sheet marks.new rows.new result
+        ≡ fills (sheet marks.old rows.old before) (parts_in (portions start (drop start bytes.now))) }
+{
+    let mut codes = before;
+    for part in (Portions { bytes, at: start }) {
+        codes = put_part(marks, rows, codes, part.unwrap());
+    }
+    codes
 }
 
-impl Seen {
-    // Puts the parts of the field that begins at `start` into their rows.
-    fn fill(&mut self, bytes: &[u8], start: usize, rows: &mut [usize])
-        requires { Fills bytes.now start (sheet_of self.old rows.old) }
-        ensures { sheet_of self.new rows.new
-            ≡ fills (sheet_of self.old rows.old) (parts_in (portions start (drop start bytes.now))) }
-    {
-        for part in (Portions { bytes, at: start }) {
-            self.put(part.unwrap(), rows);
+// Puts a part into the row of its code: a new row where it is the first, behind `codes` others, and else the row that its mark says. A code
+// whose row there is no room for is counted all the same. A mark is a byte, 0 for none and else 1 more than the index of the row: an option
+// of a byte would take two, and all marks are cleared at each call.
+fn put_part(marks: &mut [u8], rows: &mut [usize], codes: usize, part: Portion) -> usize
+    requires { Puts (sheet marks.old rows.old codes) part.code part.len }
+    ensures { sheet marks.new rows.new result
+        ≡ puts (sheet marks.old rows.old codes) part.code part.len part.place }
+{
+    let mark = marks[part.code as usize] as usize;
+    if mark > 0 {
+        if mark <= rows.len() / 4 {
+            extend_row(rows, 4 * (mark - 1), part.len, part.place);
         }
+        return codes;
     }
-
-    // Puts a part into the row of its code: a new row where it is the first, behind those of the others, and else the row that its mark
-    // says. A code whose row there is no room for is counted all the same.
-    fn put(&mut self, part: Portion, rows: &mut [usize])
-        requires { Puts (sheet_of self.old rows.old) part.code part.len }
-        ensures { sheet_of self.new rows.new
-            ≡ puts (sheet_of self.old rows.old) part.code part.len part.place }
-    {
-        let mark = self.marks[part.code as usize] as usize;
-        if mark > 0 {
-            if mark <= rows.len() / 4 {
-                extend_row(rows, 4 * (mark - 1), part.len, part.place);
-            }
-            return;
-        }
-        if self.codes < rows.len() / 4 {
-            put_row(rows, 4 * self.codes, part);
-        }
-        self.codes += 1;
-        self.marks[part.code as usize] = self.codes as u8;
+    marks[part.code as usize] = (codes + 1) as u8;
+    if codes < rows.len() / 4 {
+        put_row(rows, 4 * codes, part);
     }
+    codes + 1
 }
 
 // Puts the row of a code's first part at `row`: stores one by one, since a slice copied from an array goes through memory.

@@ -11,8 +11,8 @@ use limits::MOST_BYTES;
 use refusal::Refusal;
 use values::answer::Value as Held;
 
-// What a listing answers, as C needs it: how many rows it filled, the stop as `Step` has it, 0 where there is no room for a further row, and the
-// place where a further call goes on. `refused` is the number of a refusal, 0 for none: it fills no row and leaves the place.
+// What a listing answers, as C needs it: how many rows it filled, the stop as `Step` has it, 0 where there is no room for a further row, and
+// the place where a further call goes on. `refused` is the number of a refusal, 0 for none: it fills no row and leaves the place.
 #[repr(C)]
 #[derive(Drop)]
 pub struct Listed {
