@@ -24,12 +24,14 @@ enum Begun {
     Several(usize),
 }
 
-// What a call at `place` finds; nothing is joined, and no room is too short.
+// What a call at `place` finds; nothing is joined, and no room is too short. An answer is built anew: moved as a whole, its case would be
+// packed into a word and tested again.
 pub fn look(area: &[u8], place: usize) -> Result<Step, Refusal>
     ensures { told result ≡ sizes (rfc.look area.now place) }
 {
     match begin(area, place)? {
-        Begun::Done(step) => Ok(step),
+        Begun::Done(Step::Stopped(stop, to)) => Ok(Step::Stopped(stop, to)),
+        Begun::Done(Step::Found(found)) => Ok(Step::Found(Found { ..found })),
         Begun::Several(at) => Ok(parts::count(area, at)),
     }
 }
