@@ -261,11 +261,16 @@ def named_numbers(shape):
         kind = kind if i < kind_end else ""
         word = shape.found[i].text
         if word == "impl":
-            kind, kind_end = shape.found[i + 1].text + "::", shape.close[i + 2]
+            kind, _, _, opening = sources.owner_of(shape.found, i)
+            kind_end = shape.close[opening]
         elif word == "const":
             value = i
-            while shape.found[value].text != "=":
+            while shape.found[value].text not in ("=", ";", ">"):
                 value = shape.next(value)
+            if shape.found[value].text != "=":
+                # A parameter, or the constant of a trait, which has no value.
+                i = value + 1
+                continue
             end = value
             while shape.found[end].text != ";":
                 end = shape.next(end)

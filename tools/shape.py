@@ -48,9 +48,9 @@ class Shape:
         return self.text[self.found[first].start : self.found[self.close.get(last, last)].end]
 
     def _head_end(self, i):
-        """The brace behind the head of an `if`, a `while` or a `match`."""
+        """What stands behind the head of an `if`, a `while` or a `match`: a brace, or the arrow of an arm that has a test."""
         i += 1
-        while self.found[i].text != "{":
+        while self.found[i].text not in ("{", "=>"):
             i = self.next(i)
         return i
 
@@ -106,7 +106,7 @@ class Shape:
         return result + ([(first, last)] if first is not None else [])
 
     def tests(self):
-        """The conditions of `if` and `while`, as pairs of first token and the brace behind."""
+        """The conditions of `if` and `while`, as pairs of first token and what stands behind: a brace, or an arm's arrow."""
         for i, token in enumerate(self.found):
             if token.text in ("if", "while") and self.found[i + 1].text != "let":
                 yield i + 1, self._head_end(i)
