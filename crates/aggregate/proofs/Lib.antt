@@ -4,6 +4,7 @@ pub mod Marking
 pub mod Fronts
 pub mod Gathering
 pub mod Joining
+pub mod InTurn
 pub mod Answering
 pub mod Finding
 pub mod UniqueFinding
