@@ -7,7 +7,7 @@ use mathlib.Core.List.{List}
 use lib.Dec.{ltb}
 use lib.ListN.{length, set}
 use Rattle.std.proofs.Common.{◌⊎◌, inl, inr, true≢false}
-use borrow.Author.Tests.{le-ltb, lt-ltb, eq-eqb, ne_eqb, lt-leb}
+use borrow.Author.Tests.{le-ltb, lt-ltb, ne_eqb, lt-leb}
 use Rattle.std.specs.Prelude.{Option, Some, None, is_some, Result, Ok, Err}
 use Rattle.rfc.specs.Numbers.{refused, most_bytes, most_value, first_refusal}
 use Rattle.rfc.specs.Writing.{size_in_parts}
@@ -123,10 +123,6 @@ module _ (p : Pass) (room : List ℕ) where
   opened_head n h g e = rw (le-ltb 0 p.part h, le-ltb (length room) (p.at + 2) g, e)
 
   module _ (byte : ℕ) where
-    pub added_outside : p.part ≡ 0 → added (p, room) byte ≡ (p, room)
-    unfolding added
-    added_outside h = rw (eq-eqb p.part 0 h)
-
     pub added_byte : (p.part ≡ 0 → ⊥) → p.at < length room → added (p, room) byte ≡ (onward p, set room p.at byte)
     unfolding added
     added_byte h g = rw (ne_eqb p.part 0 h, lt-leb (length room) p.at g)

@@ -123,15 +123,6 @@ module _ (bytes : List ℕ) (at : ℕ) (ps : List Portion) (left : portions at (
         left = b.left;
       }
 
-  -- none of them is cut
-  pub left_ok : IsOk r
-  left_ok = go (next_portion at (drop at bytes)) refl
-    where
-      go : (x : rfc.Next) → next_portion at (drop at bytes) ≡ x → IsOk r
-      go rfc.no_more w = rw (told, w) refl
-      go rfc.cut_part w = cc (is-cut at (drop at bytes) w)
-      go (rfc.next p l) w = rw (told, w) refl
-
   -- no more parts are left, where no part is answered
   pub none_left : r ≡ Ok None → ps ≡ []
   none_left e = let same : whole ps ≡ whole [] = sym left ∙ ended_left bytes at told e in cc
