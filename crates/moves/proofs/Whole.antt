@@ -53,11 +53,19 @@ module _ (v room : List ℕ) (place : ℕ) where
   pub back_long : most_bytes < length v → Wrote (move_back v room place) room room place (Err TooLong)
   back_long h = refuses (move_back v room place) room place TooLong 2 refl (back_lent v room place 2 (value_2 v room place h))
 
-  pub back_moves : length v ≤ most_bytes → (p : Pass) → p ≡ begun (length room) place pairs_code 248
-      → (d : Result ℕ Refusal × List ℕ) → d ≡ laid p (back_rows v) room
-      → Done (move_back v room place) 248 pairs_code (back_rows v) room place d
-  back_moves short p begins d e =
-      rw e
-      (both_passes (move_back v room place) 248 pairs_code (back_rows v) room place p begins
-      (λ a. back_lent v room place 2 (room_2 v room place short a)) (λ a b. back_lent v room place 4 (place_4 v room place short a b))
-      (lit< tt) (back_known v) (λ a b. back_decides v room place (lent_clear v room place short a b)))
+  module _ (short : length v ≤ most_bytes) (p : Pass) (begins : p ≡ begun (length room) place pairs_code 248) where
+    back_2 : most_bytes < length room → answer_to (move_back v room place) room place ≡ refused 2
+    back_2 a = back_lent v room place 2 (room_2 v room place short a)
+
+    back_4 : length room ≤ most_bytes → length room < place → answer_to (move_back v room place) room place ≡ refused 4
+    back_4 a b = back_lent v room place 4 (place_4 v room place short a b)
+
+    pub back_refused : (e : Refusal) → p.refusal ≡ Some e → Wrote (move_back v room place) room room place (Err e)
+    back_refused = begun_stops (move_back v room place) 248 pairs_code (back_rows v) room place p begins back_2 back_4
+
+    pub back_moves : (d : Result ℕ Refusal × List ℕ) → d ≡ laid p (back_rows v) room
+        → Done (move_back v room place) 248 pairs_code (back_rows v) room place d
+    back_moves d e =
+        rw e
+        (both_passes (move_back v room place) 248 pairs_code (back_rows v) room place p begins back_2 back_4 (lit< tt) (back_known v)
+        (λ a b. back_decides v room place (lent_clear v room place short a b)))

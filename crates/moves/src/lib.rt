@@ -55,6 +55,9 @@ pub fn move_back(room: &mut [u8], place: usize, value: &[u8]) -> Result<usize, R
         return Err(Refusal::TooLong);
     }
     let start = Pass::begin(room.len(), place, PAIRS_CODE, PAIRS_PART);
+    if let Some(refusal) = start.refusal {
+        return Err(refusal);
+    }
     start.lay(room, &Routes { value })
 }
 
