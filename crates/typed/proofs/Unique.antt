@@ -12,6 +12,8 @@ use Rattle.encoder.proofs.Answers.{wrote_one}
 use Rattle.typed.specs.Writes.{kind_told}
 use Rattle.typed.proofs.checks.kind_to_write.Kinds as kind-to-write-kinds
 use Rattle.typed.proofs.checks.kind_to_write.Reads as kind-to-write
+use Rattle.typed.proofs.checks.refusal.Kinds as refusal-kinds
+use Rattle.typed.proofs.checks.refusal.Reads as refusal
 use Rattle.typed.proofs.checks.writable.Kinds as writable-kinds
 use Rattle.typed.proofs.checks.writable.Reads as writable
 use Rattle.typed.proofs.write_address.Kinds as write-address-kinds
@@ -51,6 +53,9 @@ kind_to_write_unique κs a x y s t p q = kind_one x y (p ∙ sym q)
 
 writable_unique : Unique 1 writable-kinds.ps writable-kinds.r writable.Post
 writable_unique κs a x y s t p q = told_one x y (p ∙ sym q)
+
+refusal_unique : Unique 1 refusal-kinds.ps refusal-kinds.r refusal.Post
+refusal_unique κs a x y s t p q = p ∙ sym q
 
 write_address_unique : UniqueLeft 1 write-address-kinds.ps write-address-kinds.r write-address.Post (λ κs s. s.0.now)
 write_address_unique κs a x y s t p q = wrote_one p q

@@ -1,6 +1,6 @@
 // What is alike in every typed write: the checks of the room, the place and the code, and bytes that are cut as a byte value is.
 ghost use Rattle.std.specs.Prelude.{◌≡◌};
-ghost use Rattle.rfc.specs.Numbers.{given, checked};
+ghost use Rattle.rfc.specs.Numbers.{given, checked, first_refusal};
 ghost use Rattle.rfc.specs.Typed.{code_checks, write_kind};
 ghost use Rattle.refusal.specs.Told.{told};
 ghost use Rattle.kinds.specs.Kind.{number_of};
@@ -37,6 +37,18 @@ pub fn writable(room: &[u8], place: usize, code: u8, kind: Kind) -> Result<(), R
         return Err(Refusal::OtherKind);
     }
     Ok(())
+}
+
+// The same for who has the kind by a number, which may be that of no kind: the number of the first refusal, 0 for none.
+#[tactic(auto, unfolding(crate::specs::Writes::kind_to_write, rfc::specs::Typed::code_checks, rfc::specs::Typed::other_kind, rfc::specs::Numbers::checked, rfc::specs::Numbers::first_refusal))]
+pub fn refusal(room: &[u8], place: usize, code: u8, kind: u8) -> u8
+    ensures { result ≡ first_refusal (code_checks kind code room.now place) }
+{
+    match kind_to_write(room, place, code) {
+        Ok(found) if found.number() == kind => 0,
+        Ok(_) => Refusal::OtherKind.number(),
+        Err(refusal) => refusal.number(),
+    }
 }
 
 // Writes the bytes of a value of a kind, where its parts are those of a byte value.
