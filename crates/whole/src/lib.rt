@@ -24,6 +24,7 @@ pub enum Whole {
 
 // What the option that a step found reads as, with the area and the join buffer as the step left them. What is no option passes through:
 // a refusal is the step's, or else the reading's.
+#[tactic(auto, unfolding(rfc::specs::Values::read_option, rfc::specs::Numbers::and_then))]
 pub fn read_option<'a>(
     found: Result<Step, Refusal>,
     area: &'a [u8],
