@@ -76,6 +76,10 @@ row_fits n i rows h =
     let next : i + 1 ≤ length rows / n = omega arith in
     omega (arith, mul-le-mul_left n next, mul-div-le (length rows) n, mul-suc n i, ap (λ (k : ℕ). n * k) (add-one i))
 
+-- as many rows as the quotient says
+pub rows_below : {m i q : ℕ} → i < m → m ≡ q → i < q
+rows_below h e = omega (arith, h, e)
+
 pub row_part : (n i : ℕ) (rows : List ℕ) → n * i + n ≤ length rows → length (take (n * i + n - n * i) (drop (n * i) rows)) ≡ n
 row_part n i rows h =
     omega (arith, length-take-le (n * i + n - n * i) (drop (n * i) rows) (omega (arith, length-drop (n * i) rows)))
@@ -112,12 +116,13 @@ module _ {c : Columns} {n : ℕ} {area : List ℕ} {place : ℕ} {rows₀ rows :
       ∙ sym (ap (fills_from c rows i) e)
       ∙ g.same
 
-  pub going_full : i ≤ all → all ≤ i → ◌≡◌ {A = List ℕ × Listed} (rows, record { refused = 0; stop = 0; rows = all; place = at }) end
-  going_full f h =
-      let none : all - i ≡ 0 = omega arith in
-      let is : all ≡ i = omega arith in
+  pub going_full : {m : ℕ} → m ≡ all → i ≤ m → m ≤ i
+      → ◌≡◌ {A = List ℕ × Listed} (rows, record { refused = 0; stop = 0; rows = m; place = at }) end
+  going_full {m} e f h =
+      let none : all - i ≡ 0 = omega (arith, e) in
+      let is : m ≡ i = omega arith in
       (λ j. (rows, record { refused = 0; stop = 0; rows = is j; place = at }))
-      ∙ ended full at (ap (λ (m : ℕ). list_in m c area at) none ∙ list_full c 0 area at)
+      ∙ ended full at (ap (λ (k : ℕ). list_in k c area at) none ∙ list_full c 0 area at)
 
   module _ (more : i < all) where
     one : all - i ≡ suc (all - (i + 1))
