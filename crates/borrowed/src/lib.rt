@@ -24,9 +24,21 @@ enum Begun {
     Several(usize),
 }
 
-// What a call at `place` finds; nothing is joined, and no room is too short. An answer is built anew: moved as a whole, its case would be
-// packed into a word and tested again.
+// What a call at `place` finds; nothing is joined, and no room is too short. What a first look tells is answered at once.
+#[tactic(auto, using(crate::proofs::FirstLook::looks_alone, crate::proofs::FirstLook::looks_end))]
 pub fn look(area: &[u8], place: usize) -> Result<Step, Refusal>
+    ensures { told result ≡ sizes (rfc.look area.now place) }
+{
+    match first(area, place) {
+        First::Alone(found) => Ok(Step::Found(found)),
+        First::Ends(to) => Ok(Step::Stopped(Stop::End, to)),
+        First::Several | First::Other => look_on(area, place),
+    }
+}
+
+// The long way of a look: any place of any area. An answer is built anew: moved as a whole, its case would be packed into a word and tested
+// again.
+fn look_on(area: &[u8], place: usize) -> Result<Step, Refusal>
     ensures { told result ≡ sizes (rfc.look area.now place) }
 {
     match begin(area, place)? {
