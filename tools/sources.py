@@ -33,7 +33,7 @@ class Function:
     # As another crate writes it, without the crate's name: `look`, `lists::write_pairs`, `Header::op`; of a trait's it is what a proof writes,
     # by the type, the trait and the function: `ValueFromHeld::from`.
     path: str
-    # Whether other crates can call it. Of the traits' functions those that convert count.
+    # Whether other crates can call it. Of the traits' functions those of CALLED count.
     public: bool
     # Where its text begins, and where its body stands in it, braces included.
     start: int
@@ -104,13 +104,13 @@ def first_of(found, at):
     return at
 
 
-# The traits whose functions other crates call as conversions.
-CONVERSIONS = ("From", "TryFrom")
+# The traits whose functions other crates call: conversions, and the iterator.
+CALLED = ("From", "TryFrom", "Iterator")
 
 
 def owner_of(found, at):
-    """What stands before the names of the functions of the `impl` at `at`; the type, where it is of a trait; whether that is of a conversion;
-    and where its brace opens."""
+    """What stands before the names of the functions of the `impl` at `at`; the type, where it is of a trait; whether others call that one's
+    functions; and where its brace opens."""
     opening = next(i for i in range(at, len(found)) if found[i].text == "{")
     head, depth = [], 0
     for token in found[at + 1 : opening]:
@@ -122,25 +122,25 @@ def owner_of(found, at):
         return head[0] + "::", "", False, opening
     trait = head[: head.index("for")]
     words = [head[head.index("for") + 1], *trait]
-    return "".join(word[0].upper() + word[1:] for word in words) + "::", words[0], trait[0] in CONVERSIONS, opening
+    return "".join(word[0].upper() + word[1:] for word in words) + "::", words[0], trait[0] in CALLED, opening
 
 
 def functions_in(crate, file, text, module, public):
     """The functions of one source, whose module is public or not."""
     found, result, i = tokens(text), [], 0
-    owner, owner_end, of, converts, ghosts = "", 0, "", False, -1
+    owner, owner_end, of, called, ghosts = "", 0, "", False, -1
     while i < len(found):
         if i >= owner_end:
-            owner, of, converts, ghosts = "", "", False, -1
+            owner, of, called, ghosts = "", "", False, -1
         if found[i].text == "impl":
-            owner, of, converts, opening = owner_of(found, i)
+            owner, of, called, opening = owner_of(found, i)
             owner_end = closing(found, opening)
-            ghosts = found[opening].end if converts else -1
+            ghosts = found[opening].end if called else -1
         elif found[i].text == "fn":
             first, body = found[first_of(found, i)], body_of(found, i)
             end = closing(found, body) if found[body].text == "{" else body
             path = module + owner + found[i + 1].text
-            seen = public and (first.text == "pub" or converts)
+            seen = public and (first.text == "pub" or called)
             result.append(Function(crate, file, path, seen, first.start, found[body].start, found[end].end, ghosts, of))
             i = end
         i += 1
