@@ -22,7 +22,7 @@ use Rattle.aggregate.proofs.Gathering.{Amounts, amounts}
 use Rattle.aggregate.proofs.Spanning.{options-read}
 
 -- what was counted of the parts of option 52
-told_is : (f : OptionFields) {told : Tally} → told ≡ tallied overload_code none (parts_in (options_read f)) → Amounts told (overloads f)
+pub told_is : (f : OptionFields) {told : Tally} → told ≡ tallied overload_code none (parts_in (options_read f)) → Amounts told (overloads f)
 told_is f {told} e = subst (Amounts told) (sym (overloads_are f)) (amounts overload_code (parts_in (options_read f)) e)
 
 -- what they say, where it is clear, and that it is not
