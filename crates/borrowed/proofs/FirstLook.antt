@@ -95,8 +95,8 @@ told_end at (given (Stopped CutContinuation p)) e = cc
 told_end at (refused k) e = cc
 told_end at (needs n) e = cc
 
--- so a call there answers it
-module _ (area : List ℕ) (place : ℕ) where
+-- so a step there answers it, and leaves the join buffer
+module _ (area join : List ℕ) (place : ℕ) where
   -- where something is told, it is of what is found
   of_found : {f : First} → (f ≡ Other → ⊥) → f ≡ first_of area place → f ≡ told_first (sizes (look area place))
   unfolding first_of
@@ -107,19 +107,11 @@ module _ (area : List ℕ) (place : ℕ) where
       go true false e = e
       go false u e = absurd (n e)
 
-  alone_found : (f : found.Found) → Alone f ≡ first_of area place → (given (Found f) ≡ sizes (look area place)) × (f.parts ≡ 1)
-  alone_found f e = told_alone f _ (of_found (λ z. let o : ◌≡◌ {A = ℕ} 0 1 = cc in absurd (omega arith)) e)
-
-  pub looks_alone : (f : found.Found) → Alone f ≡ first_of area place → given (Found f) ≡ sizes (look area place)
-  looks_alone f e = (alone_found f e).0
-
-  pub looks_end : (at : ℕ) → Ends at ≡ first_of area place → given (Stopped End at) ≡ sizes (look area place)
-  looks_end at e = told_end at _ (of_found (λ z. let o : ◌≡◌ {A = ℕ} 0 1 = cc in absurd (omega arith)) e)
-
--- and leaves the join buffer
-module _ (area join : List ℕ) (place : ℕ) where
   pub steps_alone : (f : found.Found) → Alone f ≡ first_of area place → Stepped area place join join (Ok (Found f))
-  steps_alone f e = let is = alone_found area place f e in passes_alone area place f is.0 is.1
+  steps_alone f e =
+      let is = told_alone f _ (of_found (λ z. let o : ◌≡◌ {A = ℕ} 0 1 = cc in absurd (omega arith)) e) in
+      passes_alone area place f is.0 is.1
 
   pub steps_end : (at : ℕ) → Ends at ≡ first_of area place → Stepped area place join join (Ok (Stopped End at))
-  steps_end at e = passes_stop area join place End at (looks_end area place at e)
+  steps_end at e =
+      passes_stop area join place End at (told_end at _ (of_found (λ z. let o : ◌≡◌ {A = ℕ} 0 1 = cc in absurd (omega arith)) e))

@@ -24,21 +24,9 @@ enum Begun {
     Several(usize),
 }
 
-// What a call at `place` finds; nothing is joined, and no room is too short. What a first look tells is answered at once.
-#[tactic(auto, using(crate::proofs::FirstLook::looks_alone, crate::proofs::FirstLook::looks_end))]
+// What a call at `place` finds; nothing is joined, and no room is too short. An answer is built anew: moved as a whole, its case would be
+// packed into a word and tested again.
 pub fn look(area: &[u8], place: usize) -> Result<Step, Refusal>
-    ensures { told result ≡ sizes (rfc.look area.now place) }
-{
-    match first(area, place) {
-        First::Alone(found) => Ok(Step::Found(found)),
-        First::Ends(to) => Ok(Step::Stopped(Stop::End, to)),
-        First::Several | First::Other => look_on(area, place),
-    }
-}
-
-// The long way of a look: any place of any area. An answer is built anew: moved as a whole, its case would be packed into a word and tested
-// again.
-fn look_on(area: &[u8], place: usize) -> Result<Step, Refusal>
     ensures { told result ≡ sizes (rfc.look area.now place) }
 {
     match begin(area, place)? {
@@ -115,17 +103,17 @@ fn begin(area: &[u8], place: usize) -> Result<Begun, Refusal>
 
 // The first place from `place` on that holds no Pad, or the area's end. `portions` has such a loop too: each says what its own reading finds
 // there, and one for both would need a contract between, with a law for each, longer than the loop.
+// A Pad is matched where it stands: with `!=` the compiler loads it for what comes behind as well, one instruction more a Pad.
 #[tactic(auto, using(rfc::proofs::Places::pad_at))]
 fn skip_pads(area: &[u8], place: usize) -> usize
     requires { place ≤ length area.now }
     ensures { Skipped area.now place result }
 {
-    for i in place..area.len() {
-        if area[i] != 0 {
-            return i;
-        }
+    let mut at = place;
+    while let Some(0) = area.get(at) {
+        at += 1;
     }
-    area.len()
+    at
 }
 
 // How a call begins at a place that holds no Pad.

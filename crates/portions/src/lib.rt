@@ -59,15 +59,15 @@ impl Iterator for Portions<'_> {
 
 // The first place from `at` on that holds no Pad; where there is none, one behind the bytes.
 // (`borrowed` has such a loop too, and says why.)
+#[tactic(auto, using(rfc::proofs::Portions::pad_at))]
 fn skip_pads(bytes: &[u8], at: usize) -> usize
     ensures { PadsPassed bytes.now at result }
 {
-    for i in at..bytes.len() {
-        if bytes[i] != 0 {
-            return i;
-        }
+    let mut to = at;
+    while let Some(0) = bytes.get(to) {
+        to += 1;
     }
-    bytes.len()
+    to
 }
 
 // What stands at `at`, where there is no Pad.

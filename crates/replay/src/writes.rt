@@ -33,10 +33,15 @@ fn pattern(place: usize) -> u8 {
 
 // Whether exactly these bytes were written, up to a place.
 fn wrote(room: &[u8], to: usize, bytes: &[u8]) -> bool {
-    let written = PLACE <= to && borrowed::part(room, PLACE, to.saturating_sub(PLACE)) == bytes;
-    written
-        && room.iter().enumerate().all(|(place, byte)| (PLACE <= place && place < to)
-            || *byte == pattern(place))
+    PLACE <= to
+        && borrowed::part(room, PLACE, to.saturating_sub(PLACE)) == bytes
+        && is_drawn(room, 0, PLACE)
+        && is_drawn(room, to, room.len())
+}
+
+// Whether the room has its pattern from a place to another.
+fn is_drawn(room: &[u8], from: usize, to: usize) -> bool {
+    (from..to).all(|place| room.get(place).copied() == Some(pattern(place)))
 }
 
 fn write(room: &mut [u8], code: u8, sort: u8, content: &[u8]) -> Option<usize> {
