@@ -107,6 +107,9 @@ impl Rows for Routes<'_> {
             match classless::route_from(self.value, at) {
                 Ok(Some(row)) => {
                     pass = pass.measure(measured_back(row.route));
+                    if pass.refusal.is_some() {
+                        return pass;
+                    }
                     at = row.place;
                 }
                 Ok(None) => return pass,

@@ -3,9 +3,12 @@
 use mathlib.Core.Path.{sym, ap, ◌∙◌}
 use mathlib.Core.List.{foldl}
 use native.Mathlib.Omega.{arith}
+use lib.ListN.{drop}
 use Rattle.std.specs.Prelude.{Option}
 use Rattle.rfc.specs.Numbers.{given}
+use Rattle.rfc.specs.Moves.{back_rows}
 use Rattle.laying.specs.Passes.{measured, gauged}
+use Rattle.laying.proofs.Measured.{none_gauged}
 use Rattle.classless.specs.Rows.{there}
 use Rattle.classless.specs.declared.Row.{Row}
 use Rattle.moves.proofs.Rows.{back_goes, back_ends, back_stops}
@@ -28,6 +31,15 @@ loop-row-preserved c =
       next.far.1,
       next.measures l.pass c.measure-pass.result (c.measure-pass.ensures ∙ ap (measured l.pass) c.measured_back.ensures) ∙ l.invariant.1,
     )
+
+pub returns-then-is_some : goal.returns-then-is_some
+returns-then-is_some c =
+    let l = c.loop-row in
+    let row = c.in-Ok-Some in
+    let next = back_goes c.args.self.now.value.now l.at c.args.self.now.short l.invariant.0 row.row
+    (ap (λ (x : Option Row). given (there x)) (sym row.field-0-is) ∙ row.ensures) in
+    sym (none_gauged (back_rows (drop row.row.place c.args.self.now.value.now)) c.measure-pass.result (sym c.is_some.ensures ∙ c.if-is_some.true))
+    ∙ next.measures l.pass c.measure-pass.result (c.measure-pass.ensures ∙ ap (measured l.pass) c.measured_back.ensures) ∙ l.invariant.1
 
 pub returns-in-Ok-None : goal.returns-in-Ok-None
 returns-in-Ok-None c =
