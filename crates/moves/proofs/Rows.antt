@@ -8,7 +8,7 @@ use native.Mathlib.Omega.{arith}
 use lib.Dec.{lit<}
 use lib.ListN.{length, take, drop, length-append, length-drop}
 use lib.Seq.{take-append_seam, drop-append_seam, take-length}
-use Rattle.std.specs.Prelude.{Some, None, Ok, Err}
+use Rattle.std.specs.Prelude.{Option, Some, None, Ok, Err}
 use Rattle.facts.specs.BigEndian.{digits, number, number_at}
 use Rattle.facts.specs.Pieces.{pieces}
 use Rattle.facts.proofs.BigEndian.{number_there}
@@ -140,7 +140,7 @@ module _ (v : List ℕ) (at : ℕ) (short : length v ≤ most_bytes) (within : a
             given_no k k (sym (clears (given k) own) ∙ refuses (given k) r)
 
   -- a row
-  module _ (next : Row) (e : told_by there (Ok (Some next)) ≡ route_from v at) where
+  module _ (next : Row) {found : Option Row} (some : found ≡ Some next) (e : told_by there (Ok found) ≡ route_from v at) where
     abbrev behind : List RowMade
     behind = back_rows (drop next.place v)
 
@@ -153,7 +153,7 @@ module _ (v : List ℕ) (at : ℕ) (short : length v ≤ most_bytes) (within : a
 
     pub back_goes : Onward
     unfolding old_row
-    back_goes = go (ahead v at short (Ok (Some next)) e within)
+    back_goes = go (ahead v at short (Ok (Some next)) (ap (λ (x : Option Row). told_by there (Ok x)) (sym some) ∙ e) within)
       where
         go : Ahead v at (Ok (Some next)) → Onward
         go (goes row rows clear is on to) =

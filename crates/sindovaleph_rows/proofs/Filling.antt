@@ -76,7 +76,7 @@ row_fits n i rows h =
     let next : i + 1 ≤ length rows / n = omega arith in
     omega (arith, mul-le-mul_left n next, mul-div-le (length rows) n, mul-suc n i, ap (λ (k : ℕ). n * k) (add-one i))
 
--- as many rows as the quotient says
+-- how many rows there are may be said by any number that is the quotient
 pub rows_below : {m i q : ℕ} → i < m → m ≡ q → i < q
 rows_below h e = omega (arith, h, e)
 

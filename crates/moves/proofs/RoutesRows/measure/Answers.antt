@@ -18,16 +18,14 @@ pub loop-row-smaller : goal.loop-row-smaller
 loop-row-smaller c =
     let l = c.loop-row in
     let row = c.in-Ok-Some in
-    let next = back_goes c.args.self.now.value.now l.at c.args.self.now.short l.invariant.0 row.row
-    (ap (λ (x : Option Row). given (there x)) (sym row.field-0-is) ∙ row.ensures) in
+    let next = back_goes c.args.self.now.value.now l.at c.args.self.now.short l.invariant.0 row.row row.field-0-is row.ensures in
     omega (arith, next.far.0, next.far.1)
 
 pub loop-row-preserved : goal.loop-row-preserved
 loop-row-preserved c =
     let l = c.loop-row in
     let row = c.in-Ok-Some in
-    let next = back_goes c.args.self.now.value.now l.at c.args.self.now.short l.invariant.0 row.row
-    (ap (λ (x : Option Row). given (there x)) (sym row.field-0-is) ∙ row.ensures) in (
+    let next = back_goes c.args.self.now.value.now l.at c.args.self.now.short l.invariant.0 row.row row.field-0-is row.ensures in (
       next.far.1,
       next.measures l.pass c.measure-pass.result (c.measure-pass.ensures ∙ ap (measured l.pass) c.measured_back.ensures) ∙ l.invariant.1,
     )
@@ -36,8 +34,7 @@ pub returns-then-is_some : goal.returns-then-is_some
 returns-then-is_some c =
     let l = c.loop-row in
     let row = c.in-Ok-Some in
-    let next = back_goes c.args.self.now.value.now l.at c.args.self.now.short l.invariant.0 row.row
-    (ap (λ (x : Option Row). given (there x)) (sym row.field-0-is) ∙ row.ensures) in
+    let next = back_goes c.args.self.now.value.now l.at c.args.self.now.short l.invariant.0 row.row row.field-0-is row.ensures in
     sym (none_gauged (back_rows (drop row.row.place c.args.self.now.value.now)) c.measure-pass.result (sym c.is_some.ensures ∙ c.if-is_some.true))
     ∙ next.measures l.pass c.measure-pass.result (c.measure-pass.ensures ∙ ap (measured l.pass) c.measured_back.ensures) ∙ l.invariant.1
 

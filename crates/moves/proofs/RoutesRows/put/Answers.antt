@@ -4,7 +4,6 @@ use mathlib.Core.Path.{◌≡◌, refl, sym, ap, ◌∙◌}
 use mathlib.Core.List.{foldl}
 use native.Mathlib.Omega.{arith}
 use Rattle.std.specs.Prelude.{Option, None, Result, Ok}
-use Rattle.rfc.specs.Numbers.{given}
 use Rattle.rfc.specs.Strung.{all_bytes}
 use Rattle.rfc.specs.Moves.{back_rows}
 use Rattle.rfc.proofs.Strung.{bytes_none, given_strung}
@@ -22,8 +21,7 @@ pub loop-row-smaller : goal.loop-row-smaller
 loop-row-smaller c =
     let l = c.loop-row in
     let row = c.in-Ok-Some in
-    let next = back_goes c.args.self.now.value.now l.at c.args.self.now.short l.invariant.0 row.row
-    (ap (λ (x : Option Row). given (there x)) (sym row.field-0-is) ∙ row.ensures) in
+    let next = back_goes c.args.self.now.value.now l.at c.args.self.now.short l.invariant.0 row.row row.field-0-is row.ensures in
     omega (arith, next.far.0, next.far.1)
 
 pub loop-row-preserved : goal.loop-row-preserved
@@ -31,8 +29,7 @@ loop-row-preserved c =
     let l = c.loop-row in
     let row = c.in-Ok-Some in
     let turn = c.put_pair-pass in
-    let next = back_goes c.args.self.now.value.now l.at c.args.self.now.short l.invariant.0 row.row
-    (ap (λ (x : Option Row). given (there x)) (sym row.field-0-is) ∙ row.ensures) in (
+    let next = back_goes c.args.self.now.value.now l.at c.args.self.now.short l.invariant.0 row.row row.field-0-is row.ensures in (
       next.far.1,
       next.clear l.invariant.1,
       next.puts (l.pass, l.room) (turn.result, turn.new.room) turn.ensures ∙ l.invariant.2,

@@ -1,6 +1,7 @@
 -- `fill` meets its contract: what is still to list gives, from where the loop stands, the same end (`Going`).
 -- Assumes nothing.
-use mathlib.Core.Path.{sym, ◌∙◌}
+use mathlib.Core.Path.{sym, ap, ◌∙◌}
+use Prim.Native.Nat.{ℕ, ◌/◌}
 use native.Mathlib.Omega.{arith}
 use Rattle.sindovaleph_rows.proofs.Rows.{four}
 use Rattle.sindovaleph_rows.proofs.Filling.{lists_2, lists_4, lists_given, row_fits, rows_below, row_part, found_inside, going_none, going_full, going_stop, going_more, never}
@@ -27,7 +28,7 @@ returns-in_err-found g c =
 pub put-requires : goal.put-requires
 put-requires g c =
     let l = c.loop-k in
-    let fits = row_fits c.WIDTH-width.result l.k c.args.rows.now (rows_below c.loop-k-test.true (grind arith)) in
+    let fits = row_fits c.WIDTH-width.result l.k c.args.rows.now (rows_below c.loop-k-test.true (ap (λ (k : ℕ). k / c.WIDTH-width.result) (omega arith))) in
     record {
       wide = row_part c.WIDTH-width.result l.k l.rows (omega (arith, fits, l.invariant.keeps)) ∙ c.WIDTH-width.ensures;
       inside = found_inside _ l.at _ (rw c.in-Found.is at c.in_ok-found.ensures);
@@ -35,14 +36,14 @@ put-requires g c =
 
 pub loop-k-preserved : goal.loop-k-preserved
 loop-k-preserved g c =
-    going_more c.loop-k.invariant (rows_below c.loop-k-test.true (grind arith)) (rw c.in-Found.is at c.in_ok-found.ensures) c.put.ensures
+    going_more c.loop-k.invariant (rows_below c.loop-k-test.true (ap (λ (k : ℕ). k / c.WIDTH-width.result) (omega arith))) (rw c.in-Found.is at c.in_ok-found.ensures) c.put.ensures
 
 pub returns-in-Stopped : goal.returns-in-Stopped
 returns-in-Stopped g c =
     lists_given _ _ _ _ c.if-area-gt-MOST_BYTES.false c.if-place-area.false c.loop-k.invariant.wide
-    (going_stop c.loop-k.invariant (rows_below c.loop-k-test.true (grind arith)) (rw c.in-Stopped.is at c.in_ok-found.ensures))
+    (going_stop c.loop-k.invariant (rows_below c.loop-k-test.true (ap (λ (k : ℕ). k / c.WIDTH-width.result) (omega arith))) (rw c.in-Stopped.is at c.in_ok-found.ensures))
 
 pub returns : goal.returns
 returns g c =
     lists_given _ _ _ _ c.if-area-gt-MOST_BYTES.false c.if-place-area.false c.loop-k.invariant.wide
-    (going_full c.loop-k.invariant (grind arith) c.loop-k.auto.k-end c.loop-k-test.false)
+    (going_full c.loop-k.invariant (ap (λ (k : ℕ). k / c.WIDTH-width.result) (omega arith)) c.loop-k.auto.k-end c.loop-k-test.false)
