@@ -24,7 +24,7 @@ known_numbered [] k = tt
 known_numbered (check test zero ∷ cs) k = let e = k.0 in let z : ◌≡◌ {A = ℕ} 19 0 = cc in omega arith
 known_numbered (check test (suc n) ∷ cs) k = known_numbered cs k.1
 
-known_says : {cs : List Check} {n : ℕ} → Known cs → Refuses cs n → says {A = ℕ} (refusal_of n) ≡ refused n
+pub known_says : {cs : List Check} {n : ℕ} → Known cs → Refuses cs n → says {A = ℕ} (refusal_of n) ≡ refused n
 known_says k (here e) = k.0
 known_says k (later e r) = known_says k.1 r
 

@@ -20,7 +20,7 @@ use Rattle.rfc.specs.Routes.{route_bytes}
 use Rattle.rfc.specs.Classless.{route_rows, route_from}
 use Rattle.rfc.specs.Strung.{RowMade, all_checks, all_bytes}
 use Rattle.rfc.specs.Moves.{width_for, barred, pair_route, route_out, pair_out, out_rows, old_form_checks, row_back, back_rows}
-use Rattle.rfc.proofs.Numbers.{here, refuses, Clear, done, next, clears, given_no, first_is, none_first, first_behind, refuses_front, clear_front, clear_behind}
+use Rattle.rfc.proofs.Numbers.{Refuses, here, refuses, Clear, done, next, clears, given_no, first_is, none_first, first_behind, refuses_front, clear_front, clear_behind}
 use Rattle.rfc.proofs.Strung.{checks_more, bytes_more}
 use Rattle.rfc.proofs.Moves.{old_18, old_19, old_none, out_none, back_more, back-rows, back_bytes, back_checks}
 use Rattle.refusal.specs.declared.Refusal.{Refusal}
@@ -29,11 +29,11 @@ use Rattle.refusal.specs.Told.{refusal_of}
 use Rattle.laying.specs.Passes.{State, row_of, measured, gauged, put}
 use Rattle.laying.specs.declared.Pass.{Pass}
 use Rattle.laying.proofs.Passes.{measured_stops, row_bad, row_good, row_refused, row_alike}
-use Rattle.laying.proofs.Measured.{none_gauged}
+use Rattle.laying.proofs.Measured.{none_gauged, known_says}
 use Rattle.classless.specs.Rows.{told_by, there, route_of}
 use Rattle.classless.specs.declared.Row.{Row}
 use Rattle.classless.proofs.Rows.{Ahead, ends, stops, goes, ahead}
-use Rattle.moves.specs.Rows.{old_row}
+use Rattle.moves.specs.Rows.{old_row, back_known}
 
 -- a route that is moved out, by its destination
 module _ (r : rfc.Route) where
@@ -122,8 +122,10 @@ module _ (v : List ℕ) (at : ℕ) (short : length v ≤ most_bytes) (within : a
       where
         go : Ahead v at (Err f) → t ≡ foldl gauged s now
         go (stops row more rows k r says-k) =
+            let known = back_known (drop at v) in
+            let first : Refuses (row_back row).checks k = rw (back_checks row) (refuses_front (old_form_checks row.route) r) in
             let own : row_of (row_back row) ≡ Err f =
-            row_refused (row_back row) f k (rw (back_checks row) (refuses_front (old_form_checks row.route) r)) says-k in
+            row_refused (row_back row) f k first (known_says (rw (back_more more row (drop at v) rows) at known).0 first) says-k in
             sym (none_gauged (map row_back more) t (rw m (measured_stops s f)))
             ∙ ap (λ (x : Pass). foldl gauged x (map row_back more)) (m ∙ ap (measured s) (sym own))
             ∙ ap (foldl gauged s) (sym (back_more more row (drop at v) rows))

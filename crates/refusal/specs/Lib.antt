@@ -1,1 +1,2 @@
+pub mod Named
 pub mod Told

@@ -3,7 +3,7 @@
 use Rattle.std.specs.Prelude.{ℕ, cond, eqb, Result, Ok, Err}
 use Rattle.rfc.specs.Numbers.{Answer, given, refused, needs}
 use Rattle.refusal.specs.declared.Refusal.{Refusal}
-use Rattle.refusal.specs.declared.Refusal.TheVariants.{MessageTooShort, TooLong, ChaddrPastEnd, PastEnd, JoinTooShort, NoSuchCode, ValueTooLong, NoRoom, OtherKind, WrongLength, NotUtf8, WidthAbove32, OddPairs, UnclearYesNo, FieldCut, UnclearOverload, SizeAboveBuffer, DestinationBarred, NoOldForm}
+use Rattle.refusal.specs.declared.Refusal.TheVariants.{MessageTooShort, TooLong, ChaddrPastEnd, PastEnd, JoinTooShort, NoSuchCode, ValueTooLong, NoRoom, OtherKind, WrongLength, NotUtf8, WidthAbove32, OddPairs, UnclearYesNo, FieldCut, UnclearOverload, SizeAboveBuffer, DestinationBarred, NoOldForm, Other}
 
 -- document 01's number of each
 abbrev pub number_of : Refusal → ℕ
@@ -26,8 +26,9 @@ number_of UnclearOverload = 16
 number_of SizeAboveBuffer = 17
 number_of DestinationBarred = 18
 number_of NoOldForm = 19
+number_of (Other other) = other.number
 
--- and the refusal of a number, where one has it alone
+-- and the refusal that has one of these numbers alone
 unfoldable pub refusal_of : ℕ → Refusal
 refusal_of n =
     cond (eqb n 1) MessageTooShort (
@@ -70,6 +71,7 @@ needed_of UnclearOverload = 0
 needed_of SizeAboveBuffer = 0
 needed_of DestinationBarred = 0
 needed_of NoOldForm = 0
+needed_of (Other other) = 0
 
 -- what each says: its number, and with 5 the length that is needed
 abbrev pub says : {A : Type 0} → Refusal → Answer A
@@ -92,6 +94,7 @@ says UnclearOverload = refused 16
 says SizeAboveBuffer = refused 17
 says DestinationBarred = refused 18
 says NoOldForm = refused 19
+says (Other other) = refused other.number
 
 -- what an answer of the code tells: what was given, or what its refusal says
 abbrev pub told : {A : Type 0} → Result A Refusal → Answer A

@@ -1,8 +1,13 @@
-// Why a call is refused: what the code calls each of the numbers that document 01 gives a caller.
+// Why a call is refused: what the code calls each of the numbers that document 01 gives a caller, and any other number of a byte.
 #![tactic(auto)]
 
-ghost use Rattle.std.specs.Prelude.{◌≡◌};
-ghost use Rattle.refusal.specs.Told.{number_of, needed_of};
+pub mod unnamed;
+
+ghost use Rattle.std.specs.Prelude.{ℕ, ◌≡◌};
+ghost use Rattle.rfc.specs.Numbers.{Answer, refused};
+ghost use Rattle.refusal.specs.Told.{number_of, needed_of, says};
+
+use unnamed::Unnamed;
 
 #[derive(Clone, Copy, Debug, PartialEq, Eq)]
 pub enum Refusal {
@@ -44,6 +49,8 @@ pub enum Refusal {
     DestinationBarred,
     // 19: a move back to option 33: a route has another width than its masked destination gives it there.
     NoOldForm,
+    // Any other number, and 5 without a length. No function of the library refuses so; those that take a refusal take any.
+    Other(Unnamed),
 }
 
 impl Refusal {
@@ -71,6 +78,7 @@ impl Refusal {
             Refusal::SizeAboveBuffer => 17,
             Refusal::DestinationBarred => 18,
             Refusal::NoOldForm => 19,
+            Refusal::Other(other) => other.number,
         }
     }
 
@@ -81,6 +89,35 @@ impl Refusal {
         match self {
             Refusal::JoinTooShort(len) => len,
             _ => 0,
+        }
+    }
+}
+
+// The refusal by a number. With 5 it is not that of a join buffer, which has its length.
+impl From<u8> for Refusal {
+    ghost from_gives = { λ number refusal. ◌≡◌ {A = Answer ℕ} (says refusal) (refused number) };
+
+    fn from(number: u8) -> Refusal {
+        match number {
+            1 => Refusal::MessageTooShort,
+            2 => Refusal::TooLong,
+            3 => Refusal::ChaddrPastEnd,
+            4 => Refusal::PastEnd,
+            6 => Refusal::NoSuchCode,
+            7 => Refusal::ValueTooLong,
+            8 => Refusal::NoRoom,
+            9 => Refusal::OtherKind,
+            10 => Refusal::WrongLength,
+            11 => Refusal::NotUtf8,
+            12 => Refusal::WidthAbove32,
+            13 => Refusal::OddPairs,
+            14 => Refusal::UnclearYesNo,
+            15 => Refusal::FieldCut,
+            16 => Refusal::UnclearOverload,
+            17 => Refusal::SizeAboveBuffer,
+            18 => Refusal::DestinationBarred,
+            19 => Refusal::NoOldForm,
+            _ => Refusal::Other(Unnamed { number }),
         }
     }
 }
