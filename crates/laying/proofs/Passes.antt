@@ -85,9 +85,8 @@ pub row_good : (m : RowMade) (n : ℕ) → first_refusal m.checks ≤ 0 → n �
 unfolding row_of
 row_good m n h e = rw (le-ltb 0 (first_refusal m.checks) h) (ap Ok (sym e))
 
-pub row_refused : (m : RowMade) (e : Refusal) (k : ℕ) → Refuses m.checks k → says {A = ℕ} (refusal_of k) ≡ refused k
-    → says {A = ℕ} e ≡ refused k → row_of m ≡ Err e
-row_refused m e k r own s = let is = says_number e k own s in row_bad m k (first_is r) is.1 ∙ ap Err is.0
+pub row_refused : (m : RowMade) (e : Refusal) (k : ℕ) → Refuses m.checks k → 0 < k → says {A = ℕ} e ≡ refused k → row_of m ≡ Err e
+row_refused m e k r h s = row_bad m k (first_is r) h ∙ ap Err (says_number e k s)
 
 pub row_alike : (m n : RowMade) → first_refusal m.checks ≡ first_refusal n.checks → length m.bytes ≡ length n.bytes → row_of m ≡ row_of n
 unfolding row_of

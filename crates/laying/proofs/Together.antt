@@ -17,6 +17,7 @@ use Rattle.rfc.proofs.Strung.{Decides}
 use Rattle.refusal.specs.declared.Refusal.{Refusal}
 use Rattle.refusal.specs.declared.Refusal.TheVariants.{TooLong, PastEnd, ValueTooLong, NoRoom}
 use Rattle.refusal.specs.Told.{refusal_of, says}
+use Rattle.refusal.proofs.Told.{says_refusal}
 use Rattle.encoder.specs.Written.{Wrote}
 use Rattle.encoder.proofs.Answers.{refuses, writes}
 use Rattle.laying.specs.Passes.{State, first, refuse, with_len, gauged, begun, turned, put, answered, laid, EachKnown}
@@ -95,8 +96,9 @@ module _ (w : Write) (most code : ℕ) (ms : List RowMade) (room : List ℕ) (pl
           (ap (λ (q : Pass). turned q n) is ∙ turned_7 p n refl (omega arith)) refl refl (decides.by_7 clear (omega arith))
 
     by_rows : Measures ms start (foldl gauged start ms) → Done (laid start ms room)
-    by_rows (bad k r s e) =
-        stops start (foldl gauged start ms) (refusal_of k) k (turned_refused (foldl gauged start ms) n (ap is_some e)) e s (decides.by_row k r)
+    by_rows (bad k r e) =
+        stops start (foldl gauged start ms) (refusal_of k) k (turned_refused (foldl gauged start ms) n (ap is_some e)) e (says_refusal k)
+        (decides.by_row k r)
     by_rows (good clear k e c) = by_length clear k e c (dec_le (length value) most_value)
 
     pub from_first : EachKnown ms → Done (laid start ms room)

@@ -1,14 +1,14 @@
 -- Two passes over the rows of a value: the first measures it, the second puts it byte by byte. What each does to its state and to the room.
 -- Assumes nothing.
-use Rattle.std.specs.Prelude.{ℕ, ◌≡◌, ◌+◌, ◌-◌, min, cond, eqb, leb, ltb, length, set, Option, Some, None, is_some, Result, Ok, Err}
+use Rattle.std.specs.Prelude.{ℕ, ◌<◌, ◌+◌, ◌-◌, min, cond, eqb, leb, ltb, length, set, Option, Some, None, is_some, Result, Ok, Err}
 use mathlib.Core.List.{List, [], ◌∷◌, foldl}
 use Rattle.facts.specs.Each.{Each}
-use Rattle.rfc.specs.Numbers.{refused, most_bytes, most_value, Check, check, first_refusal}
+use Rattle.rfc.specs.Numbers.{most_bytes, most_value, Check, check, first_refusal}
 use Rattle.rfc.specs.Writing.{size_in_parts}
 use Rattle.rfc.specs.Strung.{RowMade, all_bytes}
 use Rattle.refusal.specs.declared.Refusal.{Refusal}
 use Rattle.refusal.specs.declared.Refusal.TheVariants.{TooLong, PastEnd, ValueTooLong, NoRoom}
-use Rattle.refusal.specs.Told.{refusal_of, says}
+use Rattle.refusal.specs.Told.{refusal_of}
 use Rattle.laying.specs.declared.Pass.{Pass}
 
 -- the state of a pass, and what the room holds
@@ -97,10 +97,10 @@ laid p ms room =
     let d : State = cond (is_some q.refusal) (q, room) (foldl put (q, room) (all_bytes ms)) in
     (answered d.0, d.1)
 
--- the checks of a row have numbers that a refusal has
+-- the checks of a row have numbers, which are not 0
 abbrev pub Known : List Check → Type 0
 Known [] = Unit {0}
-Known (check test number ∷ checks) = (says {A = ℕ} (refusal_of number) ≡ refused number) × Known checks
+Known (check test number ∷ checks) = (0 < number) × Known checks
 
 abbrev pub EachKnown : List RowMade → Type 0
 EachKnown = Each (λ (m : RowMade). Known m.checks)

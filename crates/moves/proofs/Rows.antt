@@ -25,11 +25,11 @@ use Rattle.rfc.proofs.Strung.{checks_more, bytes_more}
 use Rattle.rfc.proofs.Moves.{old_18, old_19, old_none, out_none, back_more, back-rows, back_bytes, back_checks}
 use Rattle.refusal.specs.declared.Refusal.{Refusal}
 use Rattle.refusal.specs.declared.Refusal.TheVariants.{DestinationBarred, NoOldForm}
-use Rattle.refusal.specs.Told.{refusal_of}
+use Rattle.refusal.specs.Told.{named, refusal_of}
 use Rattle.laying.specs.Passes.{State, row_of, measured, gauged, put}
 use Rattle.laying.specs.declared.Pass.{Pass}
 use Rattle.laying.proofs.Passes.{measured_stops, row_bad, row_good, row_refused, row_alike}
-use Rattle.laying.proofs.Measured.{none_gauged, known_says}
+use Rattle.laying.proofs.Measured.{none_gauged, known_above}
 use Rattle.classless.specs.Rows.{told_by, there, route_of}
 use Rattle.classless.specs.declared.Row.{Row}
 use Rattle.classless.proofs.Rows.{Ahead, ends, stops, goes, ahead}
@@ -38,7 +38,7 @@ use Rattle.moves.specs.Rows.{old_row, back_known}
 -- a route that is moved out, by its destination
 module _ (r : rfc.Route) where
   pub out_barred : barred r.destination ≡ true → row_of (route_out r) ≡ Err DestinationBarred
-  unfolding route_out refusal_of
+  unfolding route_out refusal_of named
   out_barred e = row_bad (route_out r) 18 (first_is (here e)) (lit< tt)
 
   pub out_free : (n : ℕ) → barred r.destination ≡ false → n ≡ length (route_bytes r) → row_of (route_out r) ≡ Ok n
@@ -47,12 +47,12 @@ module _ (r : rfc.Route) where
 
   -- and one that is moved back
   pub old_barred : barred r.destination ≡ true → row_of (old_row r) ≡ Err DestinationBarred
-  unfolding old_row refusal_of
+  unfolding old_row refusal_of named
   old_barred e = row_bad (old_row r) 18 (old_18 r e) (lit< tt)
 
   module _ (free : barred r.destination ≡ false) where
     pub old_other : (width_for r.destination ≡ r.width → ⊥) → row_of (old_row r) ≡ Err NoOldForm
-    unfolding old_row refusal_of
+    unfolding old_row refusal_of named
     old_other e = row_bad (old_row r) 19 (old_19 r free e) (lit< tt)
 
     pub old_free : width_for r.destination ≡ r.width → row_of (old_row r) ≡ Ok 8
@@ -125,7 +125,7 @@ module _ (v : List ℕ) (at : ℕ) (short : length v ≤ most_bytes) (within : a
             let known = back_known (drop at v) in
             let first : Refuses (row_back row).checks k = rw (back_checks row) (refuses_front (old_form_checks row.route) r) in
             let own : row_of (row_back row) ≡ Err f =
-            row_refused (row_back row) f k first (known_says (rw (back_more more row (drop at v) rows) at known).0 first) says-k in
+            row_refused (row_back row) f k first (known_above (rw (back_more more row (drop at v) rows) at known).0 first) says-k in
             sym (none_gauged (map row_back more) t (rw m (measured_stops s f)))
             ∙ ap (λ (x : Pass). foldl gauged x (map row_back more)) (m ∙ ap (measured s) (sym own))
             ∙ ap (foldl gauged s) (sym (back_more more row (drop at v) rows))

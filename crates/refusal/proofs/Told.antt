@@ -2,42 +2,79 @@
 -- Assumes nothing.
 use mathlib.Core.Path.{◌≡◌, refl, sym, ap, ◌∙◌}
 use native.Mathlib.Omega.{arith}
-use Rattle.std.specs.Prelude.{ℕ, zero, suc, ◌<◌, Bool, true, false, Result, Ok, Err}
+use native.Mathlib.Decide.{ℕ_discrete}
+use borrow.Author.Tests.{eq-eqb, ne_eqb}
+use Rattle.std.specs.Prelude.{ℕ, ◌<◌, ◌≤◌, cond, eqb, Bool, true, false, Result, Ok, Err}
 use Rattle.std.proofs.Math.Bool.{Bool-set}
 use Rattle.rfc.specs.Numbers.{Answer, given, refused, needs, and_then}
 use Rattle.refusal.specs.declared.Refusal.{Refusal}
 use Rattle.refusal.specs.declared.Refusal.TheVariants.{MessageTooShort, TooLong, ChaddrPastEnd, PastEnd, JoinTooShort, NoSuchCode, ValueTooLong, NoRoom, OtherKind, WrongLength, NotUtf8, WidthAbove32, OddPairs, UnclearYesNo, FieldCut, UnclearOverload, SizeAboveBuffer, DestinationBarred, NoOldForm, Other}
 use Rattle.refusal.specs.declared.unnamed.Unnamed.{Unnamed}
 use Rattle.refusal.specs.Named.{is_named}
-use Rattle.refusal.specs.Told.{says, told, number_of, needed_of, refusal_of}
-
--- the refusal by any number
-by_name : (n : ℕ) (name : Bool) → is_named n ≡ name → Refusal
-by_name n true e = refusal_of n
-by_name n false e = Other (record { number = n; unnamed = e })
-
-refusal_by : ℕ → Refusal
-refusal_by n = by_name n (is_named n) refl
+use Rattle.refusal.specs.Told.{says, told, number_of, needed_of, named, by_name, refusal_of}
 
 -- a number that no case has is that of one refusal
 by_unnamed : (n : ℕ) (name : Bool) (e : is_named n ≡ name) (h : is_named n ≡ false)
     → by_name n name e ≡ Other (record { number = n; unnamed = h })
-unfolding by_name
 by_unnamed n true e h = absurd (cc (sym e ∙ h))
 by_unnamed n false e h = ap (λ (p : is_named n ≡ false). Other (record { number = n; unnamed = p })) (Bool-set _ _ e h)
 
-by_other : (other : Unnamed) → refusal_by other.number ≡ Other other
-unfolding refusal_by
+by_other : (other : Unnamed) → refusal_of other.number ≡ Other other
+unfolding refusal_of
 by_other other = by_unnamed other.number (is_named other.number) refl other.unnamed
+
+-- the numbers of the cases: 1 to 19, but for 5
+named_range : (n : ℕ) → is_named n ≡ true → (0 < n) × (n ≤ 19) × (n ≡ 5 → ⊥)
+named_range n e = grind arith
+
+-- a case more in front of others
+one_more : (n k : ℕ) (e rest : Refusal) → says {A = ℕ} e ≡ refused k → ((n ≡ k → ⊥) → says {A = ℕ} rest ≡ refused n)
+    → says {A = ℕ} (cond (eqb n k) e rest) ≡ refused n
+one_more n k e rest own more = go (ℕ_discrete n k)
+  where
+    go : Dec (n ≡ k) → says {A = ℕ} (cond (eqb n k) e rest) ≡ refused n
+    go (yes h) = rw (eq-eqb n k h) (own ∙ ap refused (sym h))
+    go (no h) = rw (ne_eqb n k h) (more h)
+
+-- the refusal by a number says that number
+says_named : (n : ℕ) → is_named n ≡ true → says {A = ℕ} (named n) ≡ refused n
+unfolding named
+says_named n e =
+    one_more n 1 MessageTooShort _ refl (λ n1.
+    one_more n 2 TooLong _ refl (λ n2.
+    one_more n 3 ChaddrPastEnd _ refl (λ n3.
+    one_more n 4 PastEnd _ refl (λ n4.
+    one_more n 6 NoSuchCode _ refl (λ n6.
+    one_more n 7 ValueTooLong _ refl (λ n7.
+    one_more n 8 NoRoom _ refl (λ n8.
+    one_more n 9 OtherKind _ refl (λ n9.
+    one_more n 10 WrongLength _ refl (λ n10.
+    one_more n 11 NotUtf8 _ refl (λ n11.
+    one_more n 12 WidthAbove32 _ refl (λ n12.
+    one_more n 13 OddPairs _ refl (λ n13.
+    one_more n 14 UnclearYesNo _ refl (λ n14.
+    one_more n 15 FieldCut _ refl (λ n15.
+    one_more n 16 UnclearOverload _ refl (λ n16.
+    one_more n 17 SizeAboveBuffer _ refl (λ n17.
+    one_more n 18 DestinationBarred _ refl (λ n18.
+    ap refused (omega (arith, named_range n e)))))))))))))))))))
+
+pub says_refusal : (n : ℕ) → says {A = ℕ} (refusal_of n) ≡ refused n
+unfolding refusal_of
+says_refusal n = go (is_named n) refl
+  where
+    go : (name : Bool) (e : is_named n ≡ name) → says {A = ℕ} (by_name n name e) ≡ refused n
+    go true e = says_named n e
+    go false e = refl
 
 module _ {A : Type 0} where
   back : Answer A → Result A Refusal
   back (given x) = Ok x
-  back (refused n) = Err (refusal_by n)
+  back (refused n) = Err (refusal_of n)
   back (needs len) = Err (JoinTooShort len)
 
   back_says : (e : Refusal) → back (says e) ≡ Err e
-  unfolding back refusal_by by_name refusal_of
+  unfolding back refusal_of named
   back_says MessageTooShort = refl
   back_says TooLong = refl
   back_says ChaddrPastEnd = refl
@@ -106,11 +143,6 @@ says_then {A} {B} f = says_as (λ (a : Answer A) (b : Answer B) k len. and_then 
 pub says_given : {A : Type 0} (x : A) (e : Refusal) → says e ≡ given x → ⊥
 says_given {A} x = says_as (λ (a b : Answer A) k len. a ≡ given x → ⊥) (λ k e. cc) (λ n e. cc)
 
--- a number that has a refusal alone is said by no other, and is not 0
-pub says_number : (e : Refusal) (k : ℕ) → says {A = ℕ} (refusal_of k) ≡ refused k → says {A = ℕ} e ≡ refused k → (refusal_of k ≡ e) × (0 < k)
-unfolding refusal_of
-says_number e k own s = (says_one (refusal_of k) e (own ∙ sym s), go k own)
-  where
-    go : (k : ℕ) → says {A = ℕ} (refusal_of k) ≡ refused k → 0 < k
-    go zero own = let n : ◌≡◌ {A = ℕ} 19 0 = cc in omega arith
-    go (suc k) own = omega arith
+-- the number that a refusal says is that of no other
+pub says_number : (e : Refusal) (k : ℕ) → says {A = ℕ} e ≡ refused k → refusal_of k ≡ e
+says_number e k s = says_one (refusal_of k) e (says_refusal k ∙ sym s)

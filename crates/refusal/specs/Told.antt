@@ -1,7 +1,8 @@
 -- What a refusal is in the definitions, and what an answer of the code tells.
 -- Assumes nothing.
-use Rattle.std.specs.Prelude.{ℕ, cond, eqb, Result, Ok, Err}
+use Rattle.std.specs.Prelude.{ℕ, Bool, true, false, ◌≡◌, refl, cond, eqb, Result, Ok, Err}
 use Rattle.rfc.specs.Numbers.{Answer, given, refused, needs}
+use Rattle.refusal.specs.Named.{is_named}
 use Rattle.refusal.specs.declared.Refusal.{Refusal}
 use Rattle.refusal.specs.declared.Refusal.TheVariants.{MessageTooShort, TooLong, ChaddrPastEnd, PastEnd, JoinTooShort, NoSuchCode, ValueTooLong, NoRoom, OtherKind, WrongLength, NotUtf8, WidthAbove32, OddPairs, UnclearYesNo, FieldCut, UnclearOverload, SizeAboveBuffer, DestinationBarred, NoOldForm, Other}
 
@@ -29,8 +30,8 @@ number_of NoOldForm = 19
 number_of (Other other) = other.number
 
 -- and the refusal that has one of these numbers alone
-unfoldable pub refusal_of : ℕ → Refusal
-refusal_of n =
+unfoldable pub named : ℕ → Refusal
+named n =
     cond (eqb n 1) MessageTooShort (
     cond (eqb n 2) TooLong (
     cond (eqb n 3) ChaddrPastEnd (
@@ -49,6 +50,14 @@ refusal_of n =
     cond (eqb n 17) SizeAboveBuffer (
     cond (eqb n 18) DestinationBarred (
     NoOldForm)))))))))))))))))
+
+-- and the refusal by any number
+abbrev pub by_name : (n : ℕ) (name : Bool) → is_named n ≡ name → Refusal
+by_name n true e = named n
+by_name n false e = Other (record { number = n; unnamed = e })
+
+unfoldable pub refusal_of : ℕ → Refusal
+refusal_of n = by_name n (is_named n) refl
 
 -- the length that 5 needs
 abbrev pub needed_of : Refusal → ℕ

@@ -49,7 +49,7 @@ pub enum Refusal {
     DestinationBarred,
     // 19: a move back to option 33: a route has another width than its masked destination gives it there.
     NoOldForm,
-    // Any other number, and 5 without a length. No function of the library refuses so; those that take a refusal take any.
+    // Any other number, and 5 without a length. The library refuses nothing by one; what takes a refusal takes these too.
     Other(Unnamed),
 }
 

@@ -20,7 +20,7 @@ use Rattle.rfc.proofs.Routes.{routes_2, routes_4, routes_12, routes_7, routes_8,
 use Rattle.rfc.proofs.Strung.{checks_none, checks_more, bytes_none, bytes_more, Decides}
 use Rattle.refusal.specs.declared.Refusal.{Refusal}
 use Rattle.refusal.specs.declared.Refusal.TheVariants.{WidthAbove32}
-use Rattle.refusal.specs.Told.{refusal_of}
+use Rattle.refusal.specs.Told.{named, refusal_of}
 use Rattle.laying.specs.Passes.{State, begun, row_of, put, laid}
 use Rattle.laying.specs.declared.Pass.{Pass}
 use Rattle.laying.proofs.Passes.{row_bad, row_good}
@@ -83,7 +83,7 @@ narrow_is (x ∷ rs) c = narrow_more x rs (λ d. narrow_is rs d) (subst Clear (m
 -- one row is measured
 module _ (x : Route) where
   pub wide_row : rfc.most_width < x.width → row_of (made_of x) ≡ Err WidthAbove32
-  unfolding made_of refusal_of
+  unfolding made_of refusal_of named
   wide_row h = row_bad (made_of x) 12 (first_is (here (lt-ltb rfc.most_width x.width h))) (lit< tt)
 
   pub narrow_row : (n : ℕ) → x.width ≤ rfc.most_width → n ≡ length (rfc.route_bytes (route_of x)) → row_of (made_of x) ≡ Ok n

@@ -30,7 +30,7 @@ module _ (v : List ℕ) (a : Answer rfc.Value) where
 
 module _ {kind : Kind} {v : List ℕ} (right : Right (number_of kind) v) {k : Kind} (is : kind ≡ k) where
   -- a case that says what the kind's value is
-  tells : (r : Value) (x : rfc.Value) → says r v ≡ x → value_of (number_of k) v ≡ x → count_of r ≡ length (elements x) → Named r
+  pub tells : (r : Value) (x : rfc.Value) → says r v ≡ x → value_of (number_of k) v ≡ x → count_of r ≡ length (elements x) → Named r
       → Tells v (given (value_of (number_of kind) v)) r
   tells r x e f count named =
       record {
