@@ -1,7 +1,7 @@
 -- What a lent table of routes says.
 -- Assumes nothing.
 use lib.Dec.{lit<}
-use Rattle.std.specs.Prelude.{List, [], ◌∷◌, map, ltb, refl}
+use Rattle.std.specs.Prelude.{List, [], ◌∷◌, map, ltb}
 use Rattle.rfc.specs.Numbers.{check}
 use Rattle.rfc.specs.Routes as rfc
 use Rattle.rfc.specs.Strung.{RowMade}
