@@ -20,12 +20,12 @@ use Rattle.laying.proofs.Passes.{Refused, Going, either_way, not_both, measured_
 -- checks whose numbers are not 0, so that 0 says that no check refuses
 known_numbered : (cs : List Check) → Known cs → Numbered cs
 known_numbered [] k = tt
-known_numbered (check test zero ∷ cs) k = omega (arith, k.0)
+known_numbered (check test zero ∷ cs) k = omega (arith, k.0.0)
 known_numbered (check test (suc n) ∷ cs) k = known_numbered cs k.1
 
-pub known_above : {cs : List Check} {n : ℕ} → Known cs → Refuses cs n → 0 < n
-known_above k (here e) = k.0
-known_above k (later e r) = known_above k.1 r
+pub known_range : {cs : List Check} {n : ℕ} → Known cs → Refuses cs n → (0 < n) × (n < 256)
+known_range k (here e) = k.0
+known_range k (later e r) = known_range k.1 r
 
 -- after a refusal
 pub none_gauged : (ms : List RowMade) (p : Pass) → Refused p → foldl gauged p ms ≡ p
@@ -35,7 +35,7 @@ none_gauged (m ∷ ms) p h = ap (λ (q : Pass). foldl gauged q ms) (measured_ref
 -- from one state to another the rows are measured. One is refused; or none is, and n bytes are counted, which is as many as the value has,
 -- or both are too many
 pub data Measures (ms : List RowMade) (p q : Pass) : Type 0 where
-  bad : (k : ℕ) → Refuses (all_checks ms) k → q.refusal ≡ Some (refusal_of k) → Measures ms p q
+  bad : (k : ℕ) → k < 256 → Refuses (all_checks ms) k → q.refusal ≡ Some (refusal_of k) → Measures ms p q
   good : Clear (all_checks ms) → (n : ℕ) → q ≡ with_len n p
       → min (suc most_value) n ≡ min (suc most_value) (p.len + length (all_bytes ms)) → Measures ms p q
 
@@ -57,7 +57,7 @@ module _ (m : RowMade) (ms : List RowMade) (known : Known m.checks) (told : Told
 
     in-front : (q : Pass) → min (suc most_value) (n + length (all_bytes ms)) ≡ min (suc most_value) (p.len + length (all_bytes (m ∷ ms)))
         → Measures ms (with_len n p) q → Measures (m ∷ ms) p q
-    in-front q c (bad k r t) = bad k (rw (checks_more m ms) (refuses_behind clear r)) t
+    in-front q c (bad k b r t) = bad k b (rw (checks_more m ms) (refuses_behind clear r)) t
     in-front q c (good r k is c') = good (rw (checks_more m ms) (clear_both clear r)) k is (c' ∙ c)
 
     counted_on : gauged p m ≡ with_len n p
@@ -70,7 +70,7 @@ module _ (m : RowMade) (ms : List RowMade) (known : Known m.checks) (told : Told
       let r = is_first m.checks refl g in
       let e = refusal_of number in
       rw (row_bad m number refl g, measured_bad p h e, none_gauged ms (refuse e p) refl)
-      (bad number (rw (checks_more m ms) (refuses_front (all_checks ms) r)) refl)
+      (bad number (known_range known r).1 (rw (checks_more m ms) (refuses_front (all_checks ms) r)) refl)
 
   by_row : Measures (m ∷ ms) p (foldl gauged (gauged p m) ms)
   by_row = go (dec_le number 0) (dec_le p.len most_value)
@@ -101,7 +101,7 @@ module _ (ms : List RowMade) (known : EachKnown ms) (p : Pass) (n : ℕ) (g : Go
   start_going = elim (either_way p) [ inl h ↦ absurd (not_both p h (rw (none_gauged ms p h) at measured_going)) | inr h ↦ h ]
 
   by_measures : (q : Pass) → Going q → Measures ms p q → Clear (all_checks ms)
-  by_measures q h (bad k r t) = absurd (not_both q (ap is_some t) h)
+  by_measures q h (bad k b r t) = absurd (not_both q (ap is_some t) h)
   by_measures q h (good c k is e) = c
 
   pub all_clear : Clear (all_checks ms)

@@ -96,8 +96,8 @@ module _ (w : Write) (most code : ℕ) (ms : List RowMade) (room : List ℕ) (pl
           (ap (λ (q : Pass). turned q n) is ∙ turned_7 p n refl (omega arith)) refl refl (decides.by_7 clear (omega arith))
 
     by_rows : Measures ms start (foldl gauged start ms) → Done (laid start ms room)
-    by_rows (bad k r e) =
-        stops start (foldl gauged start ms) (refusal_of k) k (turned_refused (foldl gauged start ms) n (ap is_some e)) e (says_refusal k)
+    by_rows (bad k b r e) =
+        stops start (foldl gauged start ms) (refusal_of k) k (turned_refused (foldl gauged start ms) n (ap is_some e)) e (says_refusal k b)
         (decides.by_row k r)
     by_rows (good clear k e c) = by_length clear k e c (dec_le (length value) most_value)
 

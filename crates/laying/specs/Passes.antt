@@ -97,10 +97,10 @@ laid p ms room =
     let d : State = cond (is_some q.refusal) (q, room) (foldl put (q, room) (all_bytes ms)) in
     (answered d.0, d.1)
 
--- the checks of a row have numbers, which are not 0
+-- the checks of a row have numbers of a byte, which are not 0
 abbrev pub Known : List Check → Type 0
 Known [] = Unit {0}
-Known (check test number ∷ checks) = (0 < number) × Known checks
+Known (check test number ∷ checks) = ((0 < number) × (number < 256)) × Known checks
 
 abbrev pub EachKnown : List RowMade → Type 0
 EachKnown = Each (λ (m : RowMade). Known m.checks)

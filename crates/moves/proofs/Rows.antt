@@ -29,7 +29,7 @@ use Rattle.refusal.specs.Told.{named, refusal_of}
 use Rattle.laying.specs.Passes.{State, row_of, measured, gauged, put}
 use Rattle.laying.specs.declared.Pass.{Pass}
 use Rattle.laying.proofs.Passes.{measured_stops, row_bad, row_good, row_refused, row_alike}
-use Rattle.laying.proofs.Measured.{none_gauged, known_above}
+use Rattle.laying.proofs.Measured.{none_gauged, known_range}
 use Rattle.classless.specs.Rows.{told_by, there, route_of}
 use Rattle.classless.specs.declared.Row.{Row}
 use Rattle.classless.proofs.Rows.{Ahead, ends, stops, goes, ahead}
@@ -125,7 +125,7 @@ module _ (v : List ℕ) (at : ℕ) (short : length v ≤ most_bytes) (within : a
             let known = back_known (drop at v) in
             let first : Refuses (row_back row).checks k = rw (back_checks row) (refuses_front (old_form_checks row.route) r) in
             let own : row_of (row_back row) ≡ Err f =
-            row_refused (row_back row) f k first (known_above (rw (back_more more row (drop at v) rows) at known).0 first) says-k in
+            row_refused (row_back row) f k first (known_range (rw (back_more more row (drop at v) rows) at known).0 first).0 says-k in
             sym (none_gauged (map row_back more) t (rw m (measured_stops s f)))
             ∙ ap (λ (x : Pass). foldl gauged x (map row_back more)) (m ∙ ap (measured s) (sym own))
             ∙ ap (foldl gauged s) (sym (back_more more row (drop at v) rows))

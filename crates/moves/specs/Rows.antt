@@ -1,4 +1,4 @@
--- What is made of a route that is moved back, and that the checks of every row have numbers, which are not 0.
+-- What is made of a route that is moved back, and that the checks of every row have numbers of a byte, which are not 0.
 -- Assumes nothing.
 use lib.Dec.{lit<}
 use Rattle.std.specs.Prelude.{ℕ, zero, suc, List, [], ◌∷◌, ◌++◌, map, drop, length}
@@ -21,7 +21,7 @@ out_known v = go (pieces (size_of 3) v)
   where
     go : (ps : List (List ℕ)) → EachKnown (map pair_out ps)
     go [] = tt
-    go (p ∷ ps) = ((lit< tt, tt), go ps)
+    go (p ∷ ps) = (((lit< tt, lit< tt), tt), go ps)
 
 pub back_known : (v : List ℕ) → EachKnown (back_rows v)
 unfolding back_rows row_back old_form_checks row_checks route_rows route_rows_in
@@ -30,4 +30,4 @@ back_known v = go (length v) v
     go : (k : ℕ) (v : List ℕ) → EachKnown (map row_back (route_rows_in k v))
     go zero v = tt
     go (suc k) [] = tt
-    go (suc k) (width ∷ rest) = ((lit< tt, (lit< tt, (lit< tt, (lit< tt, tt)))), go k (drop (behind_width width) rest))
+    go (suc k) (width ∷ rest) = (((lit< tt, lit< tt), ((lit< tt, lit< tt), ((lit< tt, lit< tt), ((lit< tt, lit< tt), tt)))), go k (drop (behind_width width) rest))

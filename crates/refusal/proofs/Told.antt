@@ -10,22 +10,22 @@ use Rattle.rfc.specs.Numbers.{Answer, given, refused, needs, and_then}
 use Rattle.refusal.specs.declared.Refusal.{Refusal}
 use Rattle.refusal.specs.declared.Refusal.TheVariants.{MessageTooShort, TooLong, ChaddrPastEnd, PastEnd, JoinTooShort, NoSuchCode, ValueTooLong, NoRoom, OtherKind, WrongLength, NotUtf8, WidthAbove32, OddPairs, UnclearYesNo, FieldCut, UnclearOverload, SizeAboveBuffer, DestinationBarred, NoOldForm, Other}
 use Rattle.refusal.specs.declared.unnamed.Unnamed.{Unnamed}
-use Rattle.refusal.specs.Named.{is_named}
+use Rattle.refusal.specs.Others.{is_other}
 use Rattle.refusal.specs.Told.{says, told, number_of, needed_of, named, by_name, refusal_of}
 
 -- a number that no case has is that of one refusal
-by_unnamed : (n : ℕ) (name : Bool) (e : is_named n ≡ name) (h : is_named n ≡ false)
-    → by_name n name e ≡ Other (record { number = n; unnamed = h })
-by_unnamed n true e h = absurd (cc (sym e ∙ h))
-by_unnamed n false e h = ap (λ (p : is_named n ≡ false). Other (record { number = n; unnamed = p })) (Bool-set _ _ e h)
+by_unnamed : (n : ℕ) (other : Bool) (e : is_other n ≡ other) (h : is_other n ≡ true)
+    → by_name n other e ≡ Other (record { number = n; unnamed = h })
+by_unnamed n true e h = ap (λ (p : is_other n ≡ true). Other (record { number = n; unnamed = p })) (Bool-set _ _ e h)
+by_unnamed n false e h = absurd (cc (sym e ∙ h))
 
 by_other : (other : Unnamed) → refusal_of other.number ≡ Other other
 unfolding refusal_of
-by_other other = by_unnamed other.number (is_named other.number) refl other.unnamed
+by_other other = by_unnamed other.number (is_other other.number) refl other.unnamed
 
 -- the numbers of the cases: 1 to 19, but for 5
-named_range : (n : ℕ) → is_named n ≡ true → (0 < n) × (n ≤ 19) × (n ≡ 5 → ⊥)
-named_range n e = grind arith
+named_range : (n : ℕ) → n < 256 → is_other n ≡ false → (0 < n) × (n ≤ 19) × (n ≡ 5 → ⊥)
+named_range n b e = grind arith
 
 -- a case more in front of others
 one_more : (n k : ℕ) (e rest : Refusal) → says {A = ℕ} e ≡ refused k → ((n ≡ k → ⊥) → says {A = ℕ} rest ≡ refused n)
@@ -36,10 +36,9 @@ one_more n k e rest own more = go (ℕ_discrete n k)
     go (yes h) = rw (eq-eqb n k h) (own ∙ ap refused (sym h))
     go (no h) = rw (ne_eqb n k h) (more h)
 
--- the refusal by a number says that number
-says_named : (n : ℕ) → is_named n ≡ true → says {A = ℕ} (named n) ≡ refused n
+says_named : (n : ℕ) → n < 256 → is_other n ≡ false → says {A = ℕ} (named n) ≡ refused n
 unfolding named
-says_named n e =
+says_named n b e =
     one_more n 1 MessageTooShort _ refl (λ n1.
     one_more n 2 TooLong _ refl (λ n2.
     one_more n 3 ChaddrPastEnd _ refl (λ n3.
@@ -57,15 +56,16 @@ says_named n e =
     one_more n 16 UnclearOverload _ refl (λ n16.
     one_more n 17 SizeAboveBuffer _ refl (λ n17.
     one_more n 18 DestinationBarred _ refl (λ n18.
-    ap refused (omega (arith, named_range n e)))))))))))))))))))
+    ap refused (omega (arith, named_range n b e)))))))))))))))))))
 
-pub says_refusal : (n : ℕ) → says {A = ℕ} (refusal_of n) ≡ refused n
+-- the refusal by a number of a byte says that number
+pub says_refusal : (n : ℕ) → n < 256 → says {A = ℕ} (refusal_of n) ≡ refused n
 unfolding refusal_of
-says_refusal n = go (is_named n) refl
+says_refusal n b = go (is_other n) refl
   where
-    go : (name : Bool) (e : is_named n ≡ name) → says {A = ℕ} (by_name n name e) ≡ refused n
-    go true e = says_named n e
-    go false e = refl
+    go : (other : Bool) (e : is_other n ≡ other) → says {A = ℕ} (by_name n other e) ≡ refused n
+    go true e = refl
+    go false e = says_named n b e
 
 module _ {A : Type 0} where
   back : Answer A → Result A Refusal
@@ -145,4 +145,5 @@ says_given {A} x = says_as (λ (a b : Answer A) k len. a ≡ given x → ⊥) (�
 
 -- the number that a refusal says is that of no other
 pub says_number : (e : Refusal) (k : ℕ) → says {A = ℕ} e ≡ refused k → refusal_of k ≡ e
-says_number e k s = says_one (refusal_of k) e (says_refusal k ∙ sym s)
+unfolding back
+says_number e k s = let own : Err (refusal_of k) ≡ Err e = sym (ap (back {A = ℕ}) s) ∙ back_says e in cc

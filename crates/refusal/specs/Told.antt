@@ -2,7 +2,7 @@
 -- Assumes nothing.
 use Rattle.std.specs.Prelude.{ℕ, Bool, true, false, ◌≡◌, refl, cond, eqb, Result, Ok, Err}
 use Rattle.rfc.specs.Numbers.{Answer, given, refused, needs}
-use Rattle.refusal.specs.Named.{is_named}
+use Rattle.refusal.specs.Others.{is_other}
 use Rattle.refusal.specs.declared.Refusal.{Refusal}
 use Rattle.refusal.specs.declared.Refusal.TheVariants.{MessageTooShort, TooLong, ChaddrPastEnd, PastEnd, JoinTooShort, NoSuchCode, ValueTooLong, NoRoom, OtherKind, WrongLength, NotUtf8, WidthAbove32, OddPairs, UnclearYesNo, FieldCut, UnclearOverload, SizeAboveBuffer, DestinationBarred, NoOldForm, Other}
 
@@ -51,13 +51,13 @@ named n =
     cond (eqb n 18) DestinationBarred (
     NoOldForm)))))))))))))))))
 
--- and the refusal by any number
-abbrev pub by_name : (n : ℕ) (name : Bool) → is_named n ≡ name → Refusal
-by_name n true e = named n
-by_name n false e = Other (record { number = n; unnamed = e })
+-- and the refusal by any number of a byte
+abbrev pub by_name : (n : ℕ) (other : Bool) → is_other n ≡ other → Refusal
+by_name n true e = Other (record { number = n; unnamed = e })
+by_name n false e = named n
 
 unfoldable pub refusal_of : ℕ → Refusal
-refusal_of n = by_name n (is_named n) refl
+refusal_of n = by_name n (is_other n) refl
 
 -- the length that 5 needs
 abbrev pub needed_of : Refusal → ℕ

@@ -78,7 +78,7 @@ impl Refusal {
             Refusal::SizeAboveBuffer => 17,
             Refusal::DestinationBarred => 18,
             Refusal::NoOldForm => 19,
-            Refusal::Other(other) => other.number,
+            Refusal::Other(other) => other.number as u8,
         }
     }
 
@@ -117,7 +117,9 @@ impl From<u8> for Refusal {
             17 => Refusal::SizeAboveBuffer,
             18 => Refusal::DestinationBarred,
             19 => Refusal::NoOldForm,
-            _ => Refusal::Other(Unnamed { number }),
+            _ => Refusal::Other(Unnamed {
+                number: usize::from(number),
+            }),
         }
     }
 }

@@ -19,4 +19,4 @@ made_of r = record { checks = check (ltb rfc.most_width r.width) 12 ∷ []; byte
 pub made_known : (rs : List Route) → EachKnown (map made_of rs)
 unfolding made_of
 made_known [] = tt
-made_known (r ∷ rs) = ((lit< tt, tt), made_known rs)
+made_known (r ∷ rs) = (((lit< tt, lit< tt), tt), made_known rs)
